@@ -1,2 +1,4 @@
 pub mod Masks
 pub mod Counts
+pub mod Loops
+pub mod Listings

@@ -13,7 +13,7 @@ use Rattle.calls.specs.declared.Refusal.the-variants.{SystemSize}
 use Rattle.quorums.specs.Sets.{Set, tally}
 use Rattle.quorums.specs.declared.threshold.Threshold.{Threshold}
 
--- (n + f + 1) / 2, rounded up: so many servers are a quorum
+-- how many servers are a quorum: (n + f + 1) / 2, rounded up
 abbrev pub needed : ℕ → ℕ → ℕ
 needed n f = (n + f + 1 + 1) / 2
 
@@ -29,11 +29,11 @@ threshold-quorum q s = leb (needed (q .n) (q .f)) (tally (q .n) s)
 abbrev pub threshold-fail-prone : Threshold → Set → Bool
 threshold-fail-prone q s = leb (tally (q .n) s) (q .f)
 
--- n is 1 to 16, and f is at most 5 and less than a third of n
+-- the one check: that n is 1 to 16, f at most 5, and 3 f + 1 at most n
 abbrev pub threshold-checks : ℕ → ℕ → List Check
 threshold-checks n f = (eqb n 0 || ltb 16 n || ltb 5 f || ltb n (3 * f + 1), SystemSize) ∷ []
 
--- what opening a threshold system answers
+-- what opening a threshold system answers: the system of n and f where the check passes, and else its refusal
 abbrev pub Opened : ℕ → ℕ → Result Threshold Refusal → Type 0
 Opened n f (Ok q) = (first-failed (threshold-checks n f) ≡ None) × (q .n ≡ n) × (q .f ≡ f)
 Opened n f (Err e) = first-failed (threshold-checks n f) ≡ Some e

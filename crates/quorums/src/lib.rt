@@ -7,6 +7,8 @@ ghost use Rattle.quorums.specs.Laws.{QuorumLaws};
 use crate::sets::ServerSet;
 
 pub mod by_count;
+pub mod by_list;
+pub mod listed;
 pub mod sets;
 pub mod threshold;
 

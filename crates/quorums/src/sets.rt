@@ -55,7 +55,7 @@ impl ServerSet {
         ServerSet { mask: 1 << server }
     }
 
-    // The set with the servers below `by` left out, and each other one's number less by as much.
+    // The servers from `by` on, with the number of each less by `by`.
     fn lowered(self, by: u8) -> ServerSet
         ensures { λ r. ⌜ members r 0 ≡ members self by ⌝ }
     {
