@@ -9,11 +9,11 @@ use native.Mathlib.Omega.{arith}
 use lib.Dec.{T, ltb, leb→le}
 use Rattle.std.specs.declared.option.Option.{Option}
 use Rattle.std.specs.declared.option.Option.the-variants.{Some, None}
-use Rattle.std.proofs.shelf.Tests.{true≢false, false≢true, cases-lt, lt-ltb, le-ltb, ltb-false, cond-true, cond-false}
+use Rattle.std.proofs.shelf.Tests.{true≢false, false≢true, cases-lt, lt-ltb, le-ltb, ltb-false, cond-true, cond-false, cond-both, ltb-true}
 use Rattle.std.proofs.shelf.Ways.{tells}
 use Rattle.timestamps.specs.declared.packed.Packed.{Packed}
-use Rattle.timestamps.specs.Laws.{Next, TimestampLaws}
-use Rattle.timestamps.specs.PackedOrder.{packed-above, packed-owner, packed-lowest, packed-when, packed, higher, following, next-number, packed-successor}
+use Rattle.timestamps.specs.Laws.{higher, Candidate, Next, TimestampLaws}
+use Rattle.timestamps.specs.PackedOrder.{packed-above, packed-owner, packed-lowest, packed-when, packed, following, next-number, packed-successor}
 
 -- a packed timestamp is its number
 pub packed-equal : (s t : Packed) → s .number ≡ t .number → s ≡ t
@@ -39,38 +39,46 @@ pub packed-none : (n : ℕ) → 2 ^ 64 ≤ n → packed n ≡ None
 packed-none n h = when-false n (ltb n (2 ^ 64)) (leb→le (suc n) (2 ^ 64)) (le-ltb n (2 ^ 64) h)
 
 -- the timestamp of the following number is the successor
-pub packed-next : (client : ℕ) (a b s : Packed) → client < 64 → s .number ≡ following client (higher (a .number) (b .number)) → packed-successor client a b ≡ Some s
+pub packed-next : (client : ℕ) (a b s : Packed) → client < 64 → s .number ≡ following client (higher packed-above a b .number) → packed-successor client a b ≡ Some s
 packed-next client a b s h e = cond-true (ltb client 64) _ None (lt-ltb client 64 h) ∙ ap packed (sym e) ∙ packed-number s
 
--- the following number is of the client and above both, and no number of the client above both is below it
-followed : (client x y : ℕ) → client < 64 → (following client (higher x y) % 64 ≡ client) × (x < following client (higher x y)) × (y < following client (higher x y))
-followed client x y h = (grind (arith, tells), grind (arith, tells), grind (arith, tells))
+-- the following number is of the client and above top, and no number of the client above top is below it
+followed : (client top : ℕ) → client < 64 → (following client top % 64 ≡ client) × (top < following client top)
+followed client top h = (grind (arith, tells), grind (arith, tells))
 
-none-between : (client x y k : ℕ) → k % 64 ≡ client → ltb x k ≡ true → ltb y k ≡ true → following client (higher x y) ≤ k
-none-between client x y k o p q = grind (arith, tells)
+none-between : (client top n : ℕ) → n % 64 ≡ client → top < n → following client top ≤ n
+none-between client top n o h = grind (arith, tells)
 
-pub lowest-some : (client : ℕ) (a b s : Packed) → client < 64 → s .number ≡ following client (higher (a .number) (b .number)) → Next packed-above packed-owner client a b (Some s)
+-- what is above the higher of two is above both, and the other way round
+above-both : (a b s : Packed) → higher packed-above a b .number < s .number → (a .number < s .number) × (b .number < s .number)
+above-both a b s h = (grind (arith, tells), grind (arith, tells))
+
+above-higher : (client : ℕ) (a b u : Packed) → Candidate packed-above packed-owner client a b u → higher packed-above a b .number < u .number
+above-higher client a b u c = cond-both (packed-above b a) b a (λ t. t .number < u .number) (λ _. ltb-true (b .number) (u .number) (c .above-second)) (λ _. ltb-true (a .number) (u .number) (c .above-first))
+
+candidate-from : (client : ℕ) (a b u : Packed) → Candidate packed-above packed-owner client a b u → following client (higher packed-above a b .number) ≤ u .number
+candidate-from client a b u c = none-between client (higher packed-above a b .number) (u .number) (c .owned) (above-higher client a b u c)
+
+pub lowest-some : (client : ℕ) (a b s : Packed) → client < 64 → s .number ≡ following client (higher packed-above a b .number) → Next packed-above packed-owner client a b (Some s)
 lowest-some client a b s h e =
-    let f = followed client (a .number) (b .number) h in (
+    let f = followed client (higher packed-above a b .number) h in
+    let over = above-both a b s (omega (arith, e, f .1)) in (
       record {
         owned = ap (λ n. n % 64) e ∙ f .0;
-        above-first = lt-ltb (a .number) (s .number) (omega (arith, e, f .1));
-        above-second = lt-ltb (b .number) (s .number) (omega (arith, e, f .2));
+        above-first = lt-ltb (a .number) (s .number) (over .0);
+        above-second = lt-ltb (b .number) (s .number) (over .1);
       },
-      λ u c. le-ltb (u .number) (s .number) (omega (arith, e, none-between client (a .number) (b .number) (u .number) (c .owned) (c .above-first) (c .above-second))),
+      λ u c. le-ltb (u .number) (s .number) (omega (arith, e, candidate-from client a b u c)),
     )
-
-lowest-none : (client : ℕ) (a b : Packed) → 2 ^ 64 ≤ following client (higher (a .number) (b .number)) → Next packed-above packed-owner client a b None
-lowest-none client a b h = λ u c. omega (arith, u .fits, none-between client (a .number) (b .number) (u .number) (c .owned) (c .above-first) (c .above-second))
 
 packed-lowest-next : (client : ℕ) (a b : Packed) → Next packed-above packed-owner client a b (packed-successor client a b)
 packed-lowest-next client a b =
     let P : Option Packed → Type 0 = Next packed-above packed-owner client a b in
-    let n = following client (higher (a .number) (b .number)) in
+    let n = following client (higher packed-above a b .number) in
     ⊎-elim
     (λ owns. ⊎-elim
     (λ fit. let s : Packed = record { number = n; fits = fit } in subst P (sym (packed-next client a b s owns refl)) (lowest-some client a b s owns refl))
-    (λ over. subst P (sym (cond-true (ltb client 64) (packed n) None (lt-ltb client 64 owns) ∙ packed-none n over)) (lowest-none client a b over))
+    (λ over. subst P (sym (cond-true (ltb client 64) (packed n) None (lt-ltb client 64 owns) ∙ packed-none n over)) (λ u c. omega (arith, u .fits, candidate-from client a b u c)))
     (cases-lt n (2 ^ 64)))
     (λ over. subst P (sym (cond-false (ltb client 64) (packed n) None (le-ltb client 64 over))) (λ u c. omega (arith, c .owned)))
     (cases-lt client 64)
@@ -85,5 +93,5 @@ packed-laws = record {
 }
 
 -- a next number is the following one, of a client below 64
-pub next-found : (client x y n : ℕ) → Some n ≡ next-number client x y → (client < 64) × (n ≡ following client (higher x y))
-next-found client x y n e = (grind (arith, tells), grind (arith, tells))
+pub next-found : (client top n : ℕ) → Some n ≡ next-number client top → (client < 64) × (n ≡ following client top)
+next-found client top n e = (grind (arith, tells), grind (arith, tells))

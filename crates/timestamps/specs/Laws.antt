@@ -1,9 +1,18 @@
 -- What every kind of timestamp owes: a strict total order with a lowest timestamp, and for each client the lowest of its timestamps above two others.
 use mathlib.Core.Path.{_≡_}
-use mathlib.Core.Bool.{Bool, true, false}
+use mathlib.Core.Bool.{Bool, true, false, cond}
 use Prim.Native.Nat.{ℕ}
+use lib.Dec.{ltb}
 use Rattle.std.specs.declared.option.Option.{Option}
 use Rattle.std.specs.declared.option.Option.the-variants.{Some, None}
+
+-- the higher of two timestamps; of equals, the first
+abbrev pub higher : {S : Type 0} → (S → S → Bool) → S → S → S
+higher above a b = cond (above b a) b a
+
+-- a number, if it is below the limit
+abbrev pub fitting : ℕ → ℕ → Option ℕ
+fitting limit number = cond (ltb number limit) (Some number) None
 
 -- t is owned by the client and above both a and b
 pub record Candidate {S : Type 0} (above : S → S → Bool) (owner : S → ℕ) (client : ℕ) (a b t : S) : Type 0 where

@@ -1,2 +1,3 @@
 pub mod Laws
 pub mod PackedOrder
+pub mod PairedOrder

@@ -1,10 +1,11 @@
 -- Packed timestamps: their order is that of their numbers, and the owner is the remainder by 64.
-use mathlib.Core.Bool.{Bool, true, false, _&&_, cond}
+use mathlib.Core.Bool.{Bool, true, false, cond}
 use Prim.Native.Nat.{ℕ, suc, _+_, _-_, _%_, _^_, _<_}
 use lib.Dec.{T, ltb, leb→le, lit<}
 use Rattle.std.specs.declared.option.Option.{Option}
 use Rattle.std.specs.declared.option.Option.the-variants.{Some, None}
 use Rattle.timestamps.specs.declared.packed.Packed.{Packed}
+use Rattle.timestamps.specs.Laws.{higher, fitting}
 
 -- whether the first number is above the second
 abbrev pub packed-above : Packed → Packed → Bool
@@ -27,10 +28,6 @@ packed-when number false fit = None
 abbrev pub packed : ℕ → Option Packed
 packed number = packed-when number (ltb number (2 ^ 64)) (leb→le (suc number) (2 ^ 64))
 
--- the higher of two numbers
-abbrev pub higher : ℕ → ℕ → ℕ
-higher a b = cond (ltb a b) b a
-
 -- the client's number in the row of 64 numbers that top stands in
 abbrev pub in-row : ℕ → ℕ → ℕ
 in-row client top = top - top % 64 + client
@@ -39,12 +36,10 @@ in-row client top = top - top % 64 + client
 abbrev pub following : ℕ → ℕ → ℕ
 following client top = cond (ltb top (in-row client top)) (in-row client top) (in-row client top + 64)
 
--- the client's lowest number above both a and b, if it is below 2 ^ 64; only clients below 64 own timestamps
-abbrev pub next-number : ℕ → ℕ → ℕ → Option ℕ
-next-number client a b =
-    let number = following client (higher a b) in
-    cond (ltb client 64 && ltb number (2 ^ 64)) (Some number) None
+-- the client's lowest number above top, if it is below 2 ^ 64; only clients below 64 own timestamps
+abbrev pub next-number : ℕ → ℕ → Option ℕ
+next-number client top = cond (ltb client 64) (fitting (2 ^ 64) (following client top)) None
 
 -- the client's lowest timestamp above both a and b
 abbrev pub packed-successor : ℕ → Packed → Packed → Option Packed
-packed-successor client a b = cond (ltb client 64) (packed (following client (higher (a .number) (b .number)))) None
+packed-successor client a b = cond (ltb client 64) (packed (following client (higher packed-above a b .number))) None

@@ -7,6 +7,8 @@ ghost use Rattle.timestamps.specs.Laws.{Next, TimestampLaws};
 
 pub mod packed;
 pub mod packed_order;
+pub mod paired;
+pub mod paired_order;
 
 pub trait Timestamp: Copy {
     // whether the first is above the second

@@ -1,6 +1,7 @@
 // The order of packed timestamps.
 ghost use mathlib.Core.Path.{_≡_};
-ghost use Rattle.timestamps.specs.PackedOrder.{packed-above, packed-owner, packed-lowest, packed-successor, higher, next-number};
+ghost use Rattle.timestamps.specs.Laws.{higher};
+ghost use Rattle.timestamps.specs.PackedOrder.{packed-above, packed-owner, packed-lowest, packed-successor, next-number};
 use crate::Timestamp;
 use crate::packed::Packed;
 
@@ -18,20 +19,20 @@ impl Packed {
     }
 }
 
-fn higher_of(a: u64, b: u64) -> u64
-    ensures { λ r. ⌜ r ≡ higher a b ⌝ }
+// The higher of two timestamps; of equals, the first.
+fn higher_of(a: Packed, b: Packed) -> Packed
+    ensures { λ r. ⌜ r ≡ higher packed-above a b ⌝ }
 {
-    if a < b { b } else { a }
+    if b.is_above(a) { b } else { a }
 }
 
-// The client's lowest number above both a and b: in the row of 64 numbers of the higher one, or in the row after it.
-fn number_above(client: u8, a: u64, b: u64) -> Option<u64>
-    ensures { λ r. ⌜ r ≡ next-number client a b ⌝ }
+// The client's lowest number above top: in the row of 64 numbers of top, or in the row after it.
+fn number_above(client: u8, top: u64) -> Option<u64>
+    ensures { λ r. ⌜ r ≡ next-number client top ⌝ }
 {
     if client >= 64 {
         return None;
     }
-    let top = higher_of(a, b);
     let number = top - top % 64 + client as u64;
     if top < number {
         Some(number)
@@ -58,7 +59,7 @@ pub impl Timestamp for Packed as PackedTimestamp {
     }
 
     fn next(client: u8, a: Packed, b: Packed) -> Option<Packed> {
-        match number_above(client, a.number, b.number) {
+        match number_above(client, higher_of(a, b).number) {
             Some(number) => Some(Packed::new(number)),
             None => None,
         }

@@ -1,2 +1,3 @@
 pub mod Laws
 pub mod TotalValues
+pub mod Prices

@@ -3,6 +3,7 @@ ghost use mathlib.Core.Path.{_≡_};
 ghost use mathlib.Core.Bool.{Bool};
 ghost use Rattle.values.specs.Laws.{ValueLaws};
 
+pub mod price_line;
 pub mod total;
 pub mod total_value;
 
