@@ -4,3 +4,4 @@ pub mod Gathered
 pub mod Notes
 pub mod Enters
 pub mod Decides
+pub mod Parts

@@ -25,6 +25,13 @@ impl<S: Timestamp, V: Value> Report<S, V> {
         }
     }
 
+    // The entry reports nothing from now on.
+    pub(crate) fn erase(&mut self)
+        ensures { λ _. ⌜ now (self .exit) ≡ blank lowest initialValue ⌝ }
+    {
+        *self = Report::blank();
+    }
+
     // The value that the entry reports.
     pub(crate) fn content(self) -> Option<V>
         ensures { λ r. ⌜ r ≡ content self ⌝ }
