@@ -18,6 +18,11 @@ pub record Setting (S V : Type 0) : Type 0 where
   pub successor : ℕ → S → S → Option S
   pub initial : V
 
+-- the setting of so many clients, a capacity, a highest number and three kinds
+abbrev pub setting : {S V : Type 0} → (clientCount capacity most : ℕ) → Rules S V → (S → ℕ) → S → (ℕ → S → S → Option S) → V → Setting S V
+setting clientCount capacity most rules owner lowest successor initial =
+    record { clientCount = clientCount; capacity = capacity; most = most; rules = rules; owner = owner; lowest = lowest; successor = successor; initial = initial }
+
 -- the three kinds have their laws
 pub record Lawful {S V : Type 0} (K : Setting S V) : Type 0 where
   pub quorums : QuorumLaws (K .rules .n) (K .rules .quorum) (K .rules .failProne)
