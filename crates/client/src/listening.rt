@@ -78,7 +78,7 @@ impl<S: Timestamp, V: Value> Client<S, V> {
 
 // A VALUE that may not end the read: where it would, the reports from the i-th on are as they were. Each is
 // read on the way down and written back on the way up.
-fn try_hearing<Q: QuorumSystem, S: Timestamp, V: Value>(
+fn try_value<Q: QuorumSystem, S: Timestamp, V: Value>(
     system: &Q,
     part: &mut [Report<S, V>],
     message: Message<S, V>,
@@ -96,7 +96,7 @@ fn try_hearing<Q: QuorumSystem, S: Timestamp, V: Value>(
         );
     }
     let old = part[i];
-    let found = try_hearing(system, part, message, i + 1);
+    let found = try_value(system, part, message, i + 1);
     if found.is_some() {
         part[i] = old;
     }
@@ -122,7 +122,7 @@ fn hear_within<Q: QuorumSystem, S: Timestamp, V: Value>(
             message.value,
         ));
     }
-    match try_hearing(system, part, message, 0) {
+    match try_value(system, part, message, 0) {
         Some(_) => Err(Refusal::NetworkFull),
         None => Ok(None),
     }

@@ -36,7 +36,7 @@ pub struct Exchange {
 }
 
 // A message of a client to server 0, with the initial timestamp and total.
-pub fn from_client(client: u8, kind: Kind, number: u32) -> Note {
+pub(crate) fn from_client(client: u8, kind: Kind, number: u32) -> Note {
     Message {
         client,
         server: 0,
@@ -77,12 +77,12 @@ impl fmt::Display for InWords as InWordsDisplay {
         let client = self.0.client;
         write!(f, "{name} {number} of client {client}")?;
         let timestamp = self.0.timestamp.number;
-        let pence = self.0.value.pence;
+        let total = self.0.value.pence;
         match Kind::from_byte(self.0.kind) {
             Some(Kind::Ts) | Some(Kind::Ack) => write!(f, " with timestamp {timestamp}"),
             Some(Kind::Store) | Some(Kind::Value) => write!(
                 f,
-                " with timestamp {timestamp} and total {pence}"
+                " with timestamp {timestamp} and total {total}"
             ),
             _ => Ok(()),
         }
@@ -90,7 +90,7 @@ impl fmt::Display for InWords as InWordsDisplay {
 }
 
 impl Exchange {
-    pub fn open(rt: &LibcRuntime) -> Result<Exchange, AnyError> {
+    pub(crate) fn open(rt: &LibcRuntime) -> Result<Exchange, AnyError> {
         let system = Threshold::open(1, 0)?;
         let servers = system.servers();
         let needed = system.needed();
@@ -112,7 +112,7 @@ impl Exchange {
         })
     }
 
-    pub fn post(&mut self, rt: &LibcRuntime, message: Note) -> Result<(), AnyError> {
+    pub(crate) fn post(&mut self, rt: &LibcRuntime, message: Note) -> Result<(), AnyError> {
         self.network.post(&mut self.memory, message)?;
         let words = InWords(message);
         println!(rt, "Post {words}.")?;
@@ -120,7 +120,7 @@ impl Exchange {
     }
 
     // Takes the message at a place and puts it back.
-    pub fn look_at(&mut self, rt: &LibcRuntime, place: usize) -> Result<(), AnyError> {
+    pub(crate) fn look_at(&mut self, rt: &LibcRuntime, place: usize) -> Result<(), AnyError> {
         let (message, token) = self.network.take(&self.memory, place)?;
         self.network.put_back(&self.memory, token);
         let words = InWords(message);
@@ -129,7 +129,7 @@ impl Exchange {
     }
 
     // Takes the message at a place and settles it.
-    pub fn deliver(&mut self, rt: &LibcRuntime, place: usize) -> Result<Note, AnyError> {
+    pub(crate) fn deliver(&mut self, rt: &LibcRuntime, place: usize) -> Result<Note, AnyError> {
         let (message, token) = self.network.take(&self.memory, place)?;
         self.network.settle(&mut self.memory, token);
         let words = InWords(message);
@@ -142,7 +142,7 @@ impl Exchange {
     }
 
     // Delivers the message at a place to the server.
-    pub fn serve(&mut self, rt: &LibcRuntime, place: usize) -> Result<(), AnyError> {
+    pub(crate) fn serve(&mut self, rt: &LibcRuntime, place: usize) -> Result<(), AnyError> {
         let message = self.deliver(rt, place)?;
         let before = self.network.len;
         self.server
@@ -159,10 +159,10 @@ impl Exchange {
     // Tells what the server holds, and each message that it sent.
     fn tell_sent(&self, rt: &LibcRuntime, before: usize) -> Result<(), AnyError> {
         let timestamp = self.server.timestamp.number;
-        let pence = self.server.value.pence;
+        let total = self.server.value.pence;
         println!(
             rt,
-            "The server holds timestamp {timestamp} and total {pence}."
+            "The server holds timestamp {timestamp} and total {total}."
         )?;
         for message in self.memory.iter().take(self.network.len).skip(before) {
             let words = InWords(*message);
@@ -172,7 +172,7 @@ impl Exchange {
     }
 
     // A write whose QUERY stands at a place: the server's timestamp, the writer's next, and the total stored.
-    pub fn write(
+    pub(crate) fn write(
         &mut self,
         rt: &LibcRuntime,
         number: u32,
@@ -212,13 +212,13 @@ impl Exchange {
         Ok(())
     }
 
-    pub fn tell_end(&self, rt: &LibcRuntime, seen: Note) -> Result<(), AnyError> {
+    pub(crate) fn tell_end(&self, rt: &LibcRuntime, seen: Note) -> Result<(), AnyError> {
         self.expect_quorum(seen)?;
         let timestamp = seen.timestamp.number;
-        let pence = seen.value.pence;
+        let total = seen.value.pence;
         println!(
             rt,
-            "The read saw {pence}, stored under timestamp {timestamp}."
+            "The read saw {total}, stored under timestamp {timestamp}."
         )?;
         Ok(())
     }

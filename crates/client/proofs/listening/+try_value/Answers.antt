@@ -2,7 +2,7 @@ use mathlib.Core.Path.{sym, _∙_}
 use Rattle.reading.specs.Readings.{rules}
 use Rattle.reading.specs.Reports.{blank}
 use Rattle.client.proofs.Trying.{try-end, try-back}
-use Rattle.client.proofs.listening.+try_hearing.Needs as need
+use Rattle.client.proofs.listening.+try_value.Needs as need
 
 pub returns-then-i-part : need.returns-then-i-part
 returns-then-i-part g t c =
@@ -16,5 +16,5 @@ returns-then-is-some g t c =
     let q = c .args .system .now in
     try-back (rules (g .Q·QuorumSystem .size q) (g .Q·QuorumSystem .quorum q) (g .Q·QuorumSystem .failProne q) (g .S·Timestamp .above) (g .V·Value .same))
     (blank (g .S·Timestamp .lowest) (g .V·Value .initialValue)) (c .args .message .server) (c .args .message .timestamp) (c .args .message .value)
-    (c .args .part .now) (c .try-hearing-found .last .part) (c .args .i) (c .index-part-i .result) (c .try-hearing-found .result)
-    (c .if-i-part .left) (c .try-hearing-found .kept .part) (c .index-part-i .is) (sym (c .is-some .ensures) ∙ c .if-is-some .taken) (c .try-hearing-found .ensures)
+    (c .args .part .now) (c .try-value-found .last .part) (c .args .i) (c .index-part-i .result) (c .try-value-found .result)
+    (c .if-i-part .left) (c .try-value-found .kept .part) (c .index-part-i .is) (sym (c .is-some .ensures) ∙ c .if-is-some .taken) (c .try-value-found .ensures)
