@@ -1,0 +1,14 @@
+pub mod Base
+pub mod Extra
+pub mod Safe
+pub mod SafeServer
+pub mod Past
+pub mod SafeClient
+pub mod SafeRead
+pub mod SafeRun
+pub mod Live
+pub mod LiveServer
+pub mod LiveClient
+pub mod LiveWatch
+pub mod LiveRead
+pub mod LiveRun
