@@ -83,7 +83,7 @@ updated-elim P f i x j p q = by-cond P (eqb i j) x (f j) (λ e. p (eq-of i j e))
 pub updated-at : {A : Type 0} (f : ℕ → A) (i : ℕ) (x : A) → updated f i x i ≡ x
 updated-at f i x = ap (λ t. cond t x (f i)) (eqb-same i)
 
--- All, In
+-- each element has the property
 abbrev pub All : {A : Type 0} → (A → Type 0) → List A → Type 0
 All P [] = Unit {0}
 All P (x ∷ xs) = P x × All P xs
@@ -150,8 +150,8 @@ in-to (suc n) f i h = go (eqb i n) refl (λ k. in-to n f i k)
     go true e r = in-right (to-all n f) (f n ∷ []) (subst (λ j. In (f i) (f j ∷ [])) (eq-of i n e) here)
     go false e r = in-left (to-all n f) (f n ∷ []) (r (grind arith))
 
--- the order of timestamps
 module _ {S V : Type 0} (K : Setting S V) where
+  -- the first is not above the second
   abbrev pub Le : S → S → Type 0
   Le a b = K .rules .above a b ≡ false
 

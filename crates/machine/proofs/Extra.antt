@@ -1,4 +1,4 @@
--- Three facts for the link to memory: the rule looks only at the servers below n, and the queue never outgrows its room.
+-- A quorum system looks only at the servers below n, and the queue never outgrows its capacity.
 use mathlib.Core.Path.{_≡_, refl, sym, _∙_}
 use mathlib.Core.Bool.{Bool, true, false}
 use mathlib.Core.List.{List, [], _∷_}

@@ -1,4 +1,4 @@
--- What every state keeps from which it follows that a quiet register is done.
+-- What every state of a run keeps: the part from which it follows that a quiet register is done.
 use mathlib.Core.Path.{_≡_, refl, sym, _∙_, ap, subst}
 use mathlib.Core.Bool.{Bool, true, false}
 use mathlib.Core.List.{List}
@@ -24,9 +24,11 @@ module _ {S V : Type 0} (K : Setting S V) where
   abbrev pub Coming : State S V → ℕ → ℕ → Reading S V → ℕ → (c′ k′ : ℕ) → S → V → Type 0
   Coming σ c k r b c′ k′ s v = In (store c′ b k′ s v) (σ .queue) ⊎ (In (value c b k s v) (σ .queue) ⊎ ((r .entered b ≡ true) × Le K s (r .latest b)))
 
+  -- a server has the pair as its evidence, or the pair is on its way through it
   abbrev pub Backs : State S V → ℕ → ℕ → Reading S V → ℕ → S → V → Type 0
   Backs σ c k r b s v = (r .evidence b s ≡ Some v) ⊎ (((c′ : ℕ) × (k′ : ℕ) × In (store c′ b k′ s v) (σ .queue)) ⊎ In (value c b k s v) (σ .queue))
 
+  -- the one watched genuine pair that every correct entered server backs
   pub record Chase (σ : State S V) (c k : ℕ) (r : Reading S V) : Type 0 where
     pub s : S
     pub v : V
@@ -35,6 +37,7 @@ module _ {S V : Type 0} (K : Setting S V) where
     pub from : (b : ℕ) → b < K .rules .n → σ .faulty b ≡ false → r .entered b ≡ true → Le K (σ .servers b .listener c .start) s
     pub backs : (b : ℕ) → b < K .rules .n → σ .faulty b ≡ false → r .entered b ≡ true → Backs σ c k r b s v
 
+  -- a read that is not done
   pub record LiveRead (σ : State S V) (c k : ℕ) (r : Reading S V) : Type 0 where
     pub undecided : decide (K .rules) r (r .watched) ≡ None
     pub started : (b : ℕ) → b < K .rules .n → σ .faulty b ≡ false → Started σ c k r b
@@ -42,14 +45,17 @@ module _ {S V : Type 0} (K : Setting S V) where
         (c′ k′ : ℕ) (s : S) (v : V) → In (chose c′ k′ s v) (σ .history) → Le K (σ .servers b .listener c .start) s → Coming σ c k r b c′ k′ s v
     pub chase : ((b : ℕ) → b < K .rules .n → σ .faulty b ≡ false → r .entered b ≡ false) ⊎ Chase σ c k r
 
+  -- a write that asks: each correct server told, or its message is under way
   pub record LiveAsk (σ : State S V) (c k : ℕ) (told : ℕ → Bool) : Type 0 where
     pub short : K .rules .quorum told ≡ false
     pub asked : (b : ℕ) → b < K .rules .n → σ .faulty b ≡ false → (told b ≡ true) ⊎ (In (query c b k) (σ .queue) ⊎ ((t : S) × In (ts c b k t) (σ .queue)))
 
+  -- a write that stores: each correct server acknowledged, or its message is under way
   pub record LiveStore (σ : State S V) (c k : ℕ) (s : S) (v : V) (acks : ℕ → Bool) : Type 0 where
     pub short : K .rules .quorum acks ≡ false
     pub asked : (b : ℕ) → b < K .rules .n → σ .faulty b ≡ false → (acks b ≡ true) ⊎ (In (store c b k s v) (σ .queue) ⊎ In (ack c b k s) (σ .queue))
 
+  -- a client whose operation k goes on
   abbrev pub LivePhase : State S V → ℕ → ℕ → Phase S V → Type 0
   LivePhase σ c k idle = Unit {0}
   LivePhase σ c k (asking v told t) = LiveAsk σ c k told
@@ -66,12 +72,13 @@ module _ {S V : Type 0} (K : Setting S V) where
   StopOk cs (value c b k s v) = Unit {0}
   StopOk cs (stop c b k) = (r : Reading S V) → cs c .phase ≡ reading r → k < cs c .number
 
+  -- each chosen pair is held by every correct server or on its way there, no STOP is of an open read, and every open operation goes on
   pub record Live (σ : State S V) : Type 0 where
     pub placed : (b : ℕ) → b < K .rules .n → σ .faulty b ≡ false → (c k : ℕ) (s : S) (v : V) → In (chose c k s v) (σ .history) → In (store c b k s v) (σ .queue) ⊎ Le K s (σ .servers b .timestamp)
     pub stops : All (StopOk (σ .clients)) (σ .queue)
     pub clients : (c : ℕ) → c < K .clientCount → LivePhase σ c (σ .clients c .number) (σ .clients c .phase)
 
-  -- How a server's part of the state may change under a client whose own phase stays.
+  -- a server took a READ and listens
   pub record ListenerRead (σ τ : State S V) (c b : ℕ) : Type 0 where
     pub k : ℕ
     pub last : τ .servers b .listener c .number ≡ k
@@ -82,6 +89,7 @@ module _ {S V : Type 0} (K : Setting S V) where
     pub sent : In (value c b k (σ .servers b .timestamp) (σ .servers b .value)) (τ .queue)
     pub held : τ .servers b .timestamp ≡ σ .servers b .timestamp
 
+  -- a server took a STOP and no longer listens
   pub record ListenerStop (σ τ : State S V) (c b : ℕ) : Type 0 where
     pub k : ℕ
     pub last : τ .servers b .listener c .number ≡ k
@@ -89,14 +97,17 @@ module _ {S V : Type 0} (K : Setting S V) where
     pub new : σ .servers b .listener c .number ≤ k
     pub old : (r : Reading S V) → σ .clients c .phase ≡ reading r → k < σ .clients c .number
 
+  -- how a listener may change in one step
   abbrev pub ListenerStep : State S V → State S V → ℕ → ℕ → Type 0
   ListenerStep σ τ c b = (τ .servers b .listener c ≡ σ .servers b .listener c) ⊎ (ListenerRead σ τ c b ⊎ ListenerStop σ τ c b)
 
+  -- a server took a STORE: it acknowledged it, holds it or a higher one, and passed it to those it listens to
   pub record Stored (σ τ : State S V) (c b u k : ℕ) (s : S) (v : V) : Type 0 where
     pub acked : In (ack u b k s) (τ .queue)
     pub held : Le K s (τ .servers b .timestamp)
     pub passed : c < K .clientCount → σ .servers b .listener c .listening ≡ true → Le K (σ .servers b .listener c .start) s → In (value c b (σ .servers b .listener c .number) s v) (τ .queue)
 
+  -- how the part of server b may change in one step, under a client whose own phase stays
   pub record Flow (σ τ : State S V) (c b : ℕ) : Type 0 where
     pub queries : (k : ℕ) → In (query c b k) (σ .queue) → In (query c b k) (τ .queue) ⊎ ((t : S) × In (ts c b k t) (τ .queue))
     pub tss : (v : V) (told : ℕ → Bool) (t₀ : S) → σ .clients c .phase ≡ asking v told t₀ → (t : S) → In (ts c b (σ .clients c .number) t) (σ .queue) → In (ts c b (σ .clients c .number) t) (τ .queue) ⊎ (told b ≡ true)

@@ -1,4 +1,4 @@
--- A client takes a message: the register stays alive.
+-- A client takes a message: every other open operation goes on.
 use mathlib.Core.Path.{_≡_, refl, sym, _∙_, ap, subst}
 use mathlib.Core.Bool.{Bool, true, false, cond}
 use mathlib.Core.List.{List, [], _∷_, _++_}
@@ -31,6 +31,7 @@ pub updated-true : (told : ℕ → Bool) (b d : ℕ) → told d ≡ true → upd
 updated-true told b d e = updated-elim (λ t. t ≡ true) told b true d (λ _. refl) e
 
 module _ {S V : Type 0} where
+  -- the message is to a client
   abbrev pub ToClient : Msg S V → Type 0
   ToClient (query c b k) = ⊥
   ToClient (ts c b k s) = Unit {0}

@@ -1,4 +1,4 @@
--- A reading client takes a VALUE: the register stays alive.
+-- A reading client takes a VALUE: it is done, or goes on.
 use mathlib.Core.Path.{_≡_, refl, sym, _∙_, ap, subst}
 use mathlib.Core.Bool.{Bool, true, false, cond, not, _&&_, _||_}
 use mathlib.Core.List.{List, [], _∷_, _++_}

@@ -1,4 +1,4 @@
--- Every call keeps the register alive, and the laws of all runs.
+-- Every call leaves every open operation going on, and the laws of all runs.
 use mathlib.Core.Path.{_≡_, refl, _∙_, ap, subst}
 use mathlib.Core.Bool.{Bool, true, false, not}
 use mathlib.Core.List.{List, [], _∷_}

@@ -1,4 +1,4 @@
--- A server takes a message: the register stays alive.
+-- A server takes a message: every open operation goes on.
 use mathlib.Core.Path.{_≡_, refl, sym, _∙_, ap, subst}
 use mathlib.Core.Bool.{Bool, true, false, cond, not, _&&_}
 use mathlib.Core.List.{List, [], _∷_, _++_}

@@ -13,18 +13,21 @@ use Rattle.machine.proofs.Base.{t≢f, Le, le-trans, lt-le-lt-r}
 use Rattle.machine.proofs.Safe.{Finish, Prior, Genuine, Choice, Past}
 
 module _ {S V : Type 0} where
+  -- no operation begins by the event
   abbrev pub NotBegun : Event S V → Type 0
   NotBegun (begun c k o) = ⊥
   NotBegun (chose c k s v) = Unit {0}
   NotBegun (finished c k s o q) = Unit {0}
   NotBegun (spent c k) = Unit {0}
 
+  -- no timestamp is chosen by the event
   abbrev pub NotChose : Event S V → Type 0
   NotChose (begun c k o) = Unit {0}
   NotChose (chose c k s v) = ⊥
   NotChose (finished c k s o q) = Unit {0}
   NotChose (spent c k) = Unit {0}
 
+  -- no operation finishes by the event
   abbrev pub NotFinished : Event S V → Type 0
   NotFinished (begun c k o) = Unit {0}
   NotFinished (chose c k s v) = Unit {0}
@@ -85,6 +88,7 @@ module _ {S V : Type 0} where
   new-finish p = elim (new-finished (p .at)) [ inl e ↦ inl (e .2, e .4) | inr i ↦ inr (record { c = p .c; k = p .k; o = p .o; at = i }) ]
 
 module _ {S V : Type 0} (K : Setting S V) where
+  -- the clients go on: a client that asks did so before in the same operation, or in a new one
   pub record Grows (cs cs′ : ℕ → Client S V) : Type 0 where
     pub number : (c : ℕ) → cs c .number ≤ cs′ c .number
     pub last : (c : ℕ) → Le K (cs c .last) (cs′ c .last)
@@ -170,6 +174,7 @@ module _ {S V : Type 0} (K : Setting S V) where
           e : Event S V
           e = begun c k o
 
+      -- a timestamp that a write may choose now
       pub record NewChoice (c k : ℕ) (s : S) (v : V) : Type 0 where
         pub number : k ≤ cs c .number
         pub owner : K .owner s ≡ c

@@ -1,4 +1,4 @@
--- What every state that calls lead to keeps: the part from which order and origin follow.
+-- What every state of a run keeps: the part from which the order of timestamps and the genuineness of reads follow.
 use mathlib.Core.Path.{_≡_, refl, sym, _∙_, subst}
 use mathlib.Core.Bool.{Bool, true, false}
 use mathlib.Core.List.{List, [], _∷_}
@@ -21,7 +21,7 @@ module _ {S V : Type 0} where
     pub o : Option V
     pub at : In (finished c k s o q) h
 
-  -- .. before operation k of client c began
+  -- some operation finished with timestamp s on the servers q before operation k of client c began
   pub record Prior (h : List (Event S V)) (c k : ℕ) (s : S) (q : ℕ → Bool) : Type 0 where
     pub c₁ : ℕ
     pub k₁ : ℕ
@@ -42,7 +42,7 @@ module _ {S V : Type 0} (K : Setting S V) where
   abbrev pub Genuine : List (Event S V) → S → V → Type 0
   Genuine h s v = ((s ≡ K .lowest) × (v ≡ K .initial)) ⊎ ((c : ℕ) × (k : ℕ) × In (chose c k s v) h)
 
-  -- what a correct server b, now x, has told client c, now at number current, in operation k
+  -- what a correct server b, now x, has told client c, now at number current, in operation k: genuine, held by the server, and not below what finished on it before
   pub record SeenAt (h : List (Event S V)) (current : ℕ) (x : Server S V) (c b k : ℕ) (s : S) (v : V) : Type 0 where
     pub number : k ≤ current
     pub genuine : Genuine h s v
@@ -51,13 +51,16 @@ module _ {S V : Type 0} (K : Setting S V) where
     pub from : x .listener c .number ≡ k → Le K (x .listener c .start) s
     pub floor : (s₁ : S) (q : ℕ → Bool) → Prior h c k s₁ q → q b ≡ true → Le K s₁ s
 
+  -- a correct server has told a client a pair, in the state as it is
   abbrev pub Seen : State S V → (c b k : ℕ) → S → V → Type 0
   Seen σ c b k s v = SeenAt (σ .history) (σ .clients c .number) (σ .servers b) c b k s v
 
+  -- a correct server has told a client a timestamp that is not below what finished on it before
   pub record Told (σ : State S V) (c b k : ℕ) (s : S) : Type 0 where
     pub number : k ≤ σ .clients c .number
     pub floor : (s₁ : S) (q : ℕ → Bool) → Prior (σ .history) c k s₁ q → q b ≡ true → Le K s₁ s
 
+  -- a message that a client, or a correct server, may have sent
   abbrev pub Good : State S V → Msg S V → Type 0
   Good σ (query c b k) = k ≤ σ .clients c .number
   Good σ (ts c b k s) = σ .faulty b ≡ false → Told σ c b k s
@@ -67,36 +70,41 @@ module _ {S V : Type 0} (K : Setting S V) where
   Good σ (value c b k s v) = σ .faulty b ≡ false → Seen σ c b k s v
   Good σ (stop c b k) = k ≤ σ .clients c .number
 
+  -- how a correct server that holds a timestamp listens to client c: from a start not above it, and not below what finished on the server before
   pub record GoodListener (h : List (Event S V)) (current : ℕ) (b c : ℕ) (e : Listener S) (timestamp : S) : Type 0 where
     pub number : e .number ≤ current
     pub floor : e .listening ≡ true → (s₁ : S) (q : ℕ → Bool) → Prior h c (e .number) s₁ q → q b ≡ true → Le K s₁ (e .start)
     pub held : Le K (e .start) timestamp
 
+  -- a correct server: it holds a genuine pair, not below any that finished on it
   pub record GoodServer (h : List (Event S V)) (cs : ℕ → Client S V) (b : ℕ) (x : Server S V) : Type 0 where
     pub genuine : Genuine h (x .timestamp) (x .value)
     pub reach : (s : S) (q : ℕ → Bool) → Finish h s q → q b ≡ true → Le K s (x .timestamp)
     pub listener : (c : ℕ) → GoodListener h (cs c .number) b c (x .listener c) (x .timestamp)
 
-  -- a client in operation k
+  -- what a read keeps of correct servers was told by them
   pub record ReadOk (σ : State S V) (c k : ℕ) (r : Reading S V) : Type 0 where
     pub latest : (b : ℕ) → σ .faulty b ≡ false → r .entered b ≡ true → Seen σ c b k (r .latest b) (r .latestValue b)
     pub evidence : (b : ℕ) (s : S) (v : V) → σ .faulty b ≡ false → r .evidence b s ≡ Some v → Seen σ c b k s v
 
+  -- a write that asks began, and its highest timestamp is not below what finished on a server that told
   pub record AskOk (σ : State S V) (c k : ℕ) (v : V) (told : ℕ → Bool) (t : S) : Type 0 where
     pub origin : In (begun c k (Some v)) (σ .history)
     pub floor : (b : ℕ) → σ .faulty b ≡ false → told b ≡ true → (s₁ : S) (q : ℕ → Bool) → Prior (σ .history) c k s₁ q → q b ≡ true → Le K s₁ t
 
+  -- a write that stores chose its pair, and the correct servers that acknowledged it hold it or a higher one
   pub record StoreOk (σ : State S V) (c k : ℕ) (s : S) (v : V) (acks : ℕ → Bool) : Type 0 where
     pub origin : In (chose c k s v) (σ .history)
     pub held : (b : ℕ) → σ .faulty b ≡ false → acks b ≡ true → Le K s (σ .servers b .timestamp)
 
+  -- a client in operation k
   abbrev pub GoodPhase : State S V → ℕ → ℕ → Phase S V → Type 0
   GoodPhase σ c k idle = Unit {0}
   GoodPhase σ c k (asking v told t) = AskOk σ c k v told t
   GoodPhase σ c k (storing s v acks) = StoreOk σ c k s v acks
   GoodPhase σ c k (reading r) = ReadOk σ c k r
 
-  -- of the history
+  -- a chosen pair: owned by its client, not above the last that the client chose, above the lowest, and no longer asked for
   pub record Choice (h : List (Event S V)) (cs : ℕ → Client S V) (c k : ℕ) (s : S) (v : V) : Type 0 where
     pub number : k ≤ cs c .number
     pub owner : K .owner s ≡ c
@@ -105,6 +113,7 @@ module _ {S V : Type 0} (K : Setting S V) where
     pub low : K .rules .above s (K .lowest) ≡ true
     pub shut : is-asking (cs c .phase) ≡ true → k < cs c .number
 
+  -- what the history keeps, with the clients as they are
   pub record Past (h : List (Event S V)) (cs : ℕ → Client S V) : Type 0 where
     pub number-begun : (c k : ℕ) (o : Option V) → In (begun c k o) h → k ≤ cs c .number
     pub number-finished : (c k : ℕ) (s : S) (o : Option V) (q : ℕ → Bool) → In (finished c k s o q) h → k ≤ cs c .number
@@ -118,6 +127,7 @@ module _ {S V : Type 0} (K : Setting S V) where
     pub source : (c k : ℕ) (s : S) (v : V) (q : ℕ → Bool) → In (finished c k s (Some v) q) h →
         ((s ≡ K .lowest) × (v ≡ K .initial)) ⊎ ((c′ : ℕ) × (k′ : ℕ) × Before (chose c′ k′ s v) (finished c k s (Some v) q) h)
 
+  -- the faulty servers are fail-prone, and messages, correct servers, clients and history are as they should be
   pub record Safe (σ : State S V) : Type 0 where
     pub fail-prone : K .rules .failProne (σ .faulty) ≡ true
     pub messages : All (Good σ) (σ .queue)
@@ -125,7 +135,7 @@ module _ {S V : Type 0} (K : Setting S V) where
     pub clients : (c : ℕ) → GoodPhase σ c (σ .clients c .number) (σ .clients c .phase)
     pub past : Past (σ .history) (σ .clients)
 
-  -- one state comes after another
+  -- one state comes after another: faults, held timestamps, numbers, history and listeners grow, and old operations get no new predecessors
   pub record Later (σ τ : State S V) : Type 0 where
     pub correct : (b : ℕ) → τ .faulty b ≡ false → σ .faulty b ≡ false
     pub held : (b : ℕ) → Le K (σ .servers b .timestamp) (τ .servers b .timestamp)
@@ -135,7 +145,7 @@ module _ {S V : Type 0} (K : Setting S V) where
     pub listener : (b c : ℕ) → σ .servers b .listener c .number ≤ τ .servers b .listener c .number
     pub start : (b c : ℕ) → τ .servers b .listener c .number ≡ σ .servers b .listener c .number → τ .servers b .listener c .start ≡ σ .servers b .listener c .start
 
-  -- a server moves
+  -- a server moves on
   pub record Moves (x y : Server S V) : Type 0 where
     pub held : Le K (x .timestamp) (y .timestamp)
     pub listener : (c : ℕ) → x .listener c .number ≤ y .listener c .number

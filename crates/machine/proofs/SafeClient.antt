@@ -42,6 +42,7 @@ module _ {S V : Type 0} (K : Setting S V) (L : Lawful K) (σ : State S V) (I : S
     abbrev τ : State S V
     τ = set-client σ c rest x ms es
 
+    -- the step makes no new predecessor of an old operation
     abbrev pub PriorsOld : Type 0
     PriorsOld = (u k : ℕ) (s : S) (q : ℕ → Bool) → k ≤ σ .clients u .number → Prior (es ++ σ .history) u k s q → Prior (σ .history) u k s q
 

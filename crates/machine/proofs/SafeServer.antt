@@ -79,6 +79,7 @@ module _ {S V : Type 0} (K : Setting S V) (L : Lawful K) (σ : State S V) (I : S
         sent zero = tt
         sent (suc u) = all-++ (Good K τ) (passed-on K b u (σ .servers b .listener) s v) (passed-to K b u (σ .servers b .listener u) s v) (sent u) (one u _ refl)
 
+    -- the server after a READ that it takes
     abbrev pub after-read : Server S V
     after-read = record { timestamp = σ .servers b .timestamp; value = σ .servers b .value; listener = updated (σ .servers b .listener) c (record { number = k; listening = true; start = σ .servers b .timestamp }) }
 
@@ -126,6 +127,7 @@ module _ {S V : Type 0} (K : Setting S V) (L : Lawful K) (σ : State S V) (I : S
               floor = λ s₁ q p j. I .servers b f .reach s₁ q (prior-finish p) j;
             })
 
+    -- the server after a STOP that it takes
     abbrev pub after-stop : Server S V
     after-stop = record { timestamp = σ .servers b .timestamp; value = σ .servers b .value; listener = updated (σ .servers b .listener) c (record { number = k; listening = false; start = σ .servers b .listener c .start }) }
 
