@@ -79,7 +79,7 @@ pub record State (S V : Type 0) : Type 0 where
   pub queue : List (Msg S V)
   pub history : List (Event S V)
 
--- what may be asked of the register: a client begins to write or to read; the message at a place is delivered; a server turns faulty; a faulty server sends any message
+-- what may be asked of the register: a client begins to write or to read; the message at a place is delivered; a server turns faulty; a message of a faulty server is forged
 pub data Call (S V : Type 0) : Type 0 where
   write : ℕ → V → Call S V
   read : ℕ → Call S V
