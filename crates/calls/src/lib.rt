@@ -1,4 +1,5 @@
-// Why a call is refused. A refusal has a number, by which scripts and terminals know it.
+// What is asked of a register and what it answers. A refusal has a number, by which scripts and terminals
+// know it. S is the kind of timestamps and V that of values.
 ghost use mathlib.Core.Path.{_≡_};
 ghost use Rattle.calls.specs.Refusals.{number-of};
 use std::error::Error;
@@ -39,6 +40,61 @@ pub enum Refusal {
     NotOpened,
     OpenedTwice,
     ScriptTooLong,
+}
+
+// What is asked: a client begins to write or to read; the message at a place of the queue is delivered;
+// a server is faulty from now on; a faulty server sends a message of any content.
+#[derive(Clone, Copy)]
+pub enum Call<S, V> {
+    Write {
+        client: u8,
+        value: V,
+    },
+    Read {
+        client: u8,
+    },
+    Deliver {
+        place: usize,
+    },
+    Turn {
+        server: u8,
+    },
+    Forge {
+        server: u8,
+        client: u8,
+        kind: u8,
+        number: u32,
+        timestamp: S,
+        value: V,
+    },
+}
+
+// What is answered. An operation goes by its client and its number.
+#[derive(Clone, Copy)]
+pub enum Answer<S, V> {
+    Begun {
+        client: u8,
+        number: u32,
+    },
+    Taken,
+    FinishedWrite {
+        client: u8,
+        number: u32,
+        timestamp: S,
+    },
+    FinishedRead {
+        client: u8,
+        number: u32,
+        timestamp: S,
+        value: V,
+    },
+    Spent {
+        client: u8,
+        number: u32,
+    },
+    Turned,
+    Forged,
+    Refused(Refusal),
 }
 
 impl Refusal {

@@ -77,6 +77,13 @@ Taken net memory place (Ok given) net′ =
 Taken net memory place (Err e) net′ =
     (first-failed (take-checks net (length memory) place) ≡ Some e) × (net′ ≡ net)
 
+-- looked at: the message at the place, and the network as it was
+abbrev pub Peeked : {M : Type 0} → Network → List M → ℕ → Result M Refusal → Network → Type 0
+Peeked net memory place (Ok message) net′ =
+    (first-failed (take-checks net (length memory) place) ≡ None) × (message ≡ getD memory place message) × (net′ ≡ net)
+Peeked net memory place (Err e) net′ =
+    (first-failed (take-checks net (length memory) place) ≡ Some e) × (net′ ≡ net)
+
 -- the first len entries without the one at a place; what lies from len - 1 on stays
 abbrev pub closed : {M : Type 0} → List M → ℕ → ℕ → List M
 closed memory place len = removed (take len memory) place ++ drop (len - 1) memory

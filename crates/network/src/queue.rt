@@ -4,7 +4,7 @@ ghost use mathlib.Core.Path.{_≡_};
 ghost use Prim.Native.Nat.{ℕ, _+_, _-_, _<_, _≤_};
 ghost use mathlib.Core.Bool.{Bool};
 ghost use lib.ListN.{length, getD, set};
-ghost use Rattle.network.specs.Queues.{sized, below, fits, closed, Opened, Posted, Taken, settled, closed-up, restored};
+ghost use Rattle.network.specs.Queues.{sized, below, fits, closed, Opened, Posted, Taken, Peeked, settled, closed-up, restored};
 use crate::message::Message;
 use calls::Refusal;
 
@@ -94,8 +94,11 @@ impl Network {
         }
         if let Some(place) = self.lifted {
             close_up(memory, place, self.len);
-            self.len -= 1;
-            self.lifted = None;
+            *self = Network {
+                len: self.len - 1,
+                lifted: None,
+                ..*self
+            };
         }
     }
 
@@ -107,6 +110,19 @@ impl Network {
         if self.fits(memory.len()) {
             self.lifted = None;
         }
+    }
+
+    // The message at a place, which stays there.
+    pub fn peek<S: Copy, V: Copy>(
+        &mut self,
+        memory: &[Message<S, V>],
+        place: usize,
+    ) -> Result<Message<S, V>, Refusal>
+        ensures { λ r. ⌜ Peeked (now (self .entry)) (now (memory .entry)) place r (now (self .exit)) ⌝ }
+    {
+        let (message, token) = self.take(memory, place)?;
+        self.put_back(memory, token);
+        Ok(message)
     }
 
     // Whether the record goes with a memory of so many messages.

@@ -1,1 +1,4 @@
 pub mod Readings
+pub mod Reports
+pub mod Deciding
+pub mod Hearing

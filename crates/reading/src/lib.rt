@@ -1,7 +1,6 @@
-// What a reading client keeps, in lent memory.
-#[derive(Clone, Copy)]
-pub struct Report<S, V> {
-    pub present: bool,
-    pub timestamp: S,
-    pub value: V,
-}
+// What a reading client keeps of the servers' reports, in lent memory, and when its read is done.
+mod decide;
+mod evidence;
+pub mod hear;
+mod order;
+pub mod reports;

@@ -1,0 +1,4 @@
+pub mod Settings
+pub mod Clients
+pub mod Protocol
+pub mod Runs
