@@ -10,8 +10,10 @@ use Rattle.std.specs.declared.option.Option.{Option}
 use Rattle.std.specs.declared.option.Option.the-variants.{Some, None}
 use Rattle.timestamps.specs.Laws.{higher, Candidate, Next}
 use Rattle.reading.specs.Readings.{updated, level}
-use Rattle.machine.specs.Machine.{Setting, Lawful, to-all, pushed, lift}
-use Rattle.machine.specs.Law.{In, here, there}
+use Rattle.protocol.specs.Settings.{Setting, Lawful}
+use Rattle.protocol.specs.Clients.{to-all}
+use Rattle.protocol.specs.Protocol.{lifted, lift}
+use Rattle.protocol.specs.Runs.{In, here, there}
 
 pub zero≢one : _≡_ {A = ℕ} 0 1 → ⊥
 zero≢one e = omega arith
@@ -108,7 +110,7 @@ all-lift P zero (x ∷ xs) p e h =
     (subst P (sym e0) (h .0), subst (All P) (sym e1) (h .1))
 all-lift {A} P (suc k) (x ∷ xs) p e h = go (lift k xs) refl e (λ q i. all-lift P k xs q i (h .1))
   where
-    go : (o : Option (A × List A)) → lift k xs ≡ o → pushed x o ≡ Some p → ((q : A × List A) → lift k xs ≡ Some q → P (q .0) × All P (q .1)) → P (p .0) × All P (p .1)
+    go : (o : Option (A × List A)) → lift k xs ≡ o → lifted x o ≡ Some p → ((q : A × List A) → lift k xs ≡ Some q → P (q .0) × All P (q .1)) → P (p .0) × All P (p .1)
     go None i e f = absurd (Some≢None e refl)
     go (Some q) i e f =
         let r = f q i in
@@ -126,7 +128,7 @@ in-lift l zero (x ∷ xs) p e here = inl cc
 in-lift l zero (x ∷ xs) p e (there i) = let e1 : p .1 ≡ xs = cc in inr (subst (In l) (sym e1) i)
 in-lift {A} l (suc k) (x ∷ xs) p e j = go (lift k xs) refl e (in-cons j) (λ q i u. in-lift l k xs q i u)
   where
-    go : (o : Option (A × List A)) → lift k xs ≡ o → pushed x o ≡ Some p → (l ≡ x) ⊎ In l xs → ((q : A × List A) → lift k xs ≡ Some q → In l xs → (l ≡ q .0) ⊎ In l (q .1)) → (l ≡ p .0) ⊎ In l (p .1)
+    go : (o : Option (A × List A)) → lift k xs ≡ o → lifted x o ≡ Some p → (l ≡ x) ⊎ In l xs → ((q : A × List A) → lift k xs ≡ Some q → In l xs → (l ≡ q .0) ⊎ In l (q .1)) → (l ≡ p .0) ⊎ In l (p .1)
     go None i e j f = absurd (Some≢None e refl)
     go (Some q) i e (inl j) f = let e1 : p .1 ≡ (l ∷ q .1) = cc in inr (subst (In l) (sym e1) here)
     go (Some q) i e (inr j) f =

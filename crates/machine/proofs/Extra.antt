@@ -6,7 +6,8 @@ use Prim.Native.Nat.{ℕ, _≤_, _<_}
 use native.Mathlib.Omega.{arith}
 use lib.Dec.{leb}
 use lib.ListN.{length}
-use Rattle.machine.specs.Machine.{Setting, Lawful, State, Call, made, step, run}
+use Rattle.protocol.specs.Settings.{Setting, Lawful}
+use Rattle.machine.specs.Machine.{State, Call, made, step, run}
 use Rattle.machine.proofs.Base.{t≢f, by-cond, le-of}
 
 bool-both : (a b : Bool) → (a ≡ true → b ≡ true) → (b ≡ true → a ≡ true) → a ≡ b

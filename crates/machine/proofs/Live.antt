@@ -8,8 +8,12 @@ use native.Mathlib.Omega.{arith}
 use lib.Dec.{eqb}
 use Rattle.std.specs.declared.option.Option.the-variants.{Some, None}
 use Rattle.reading.specs.Readings.{Reading, among, decide}
-use Rattle.machine.specs.Machine.{Setting, Lawful, Msg, query, ts, store, ack, value, stop, Event, chose, Listener, Server, Phase, idle, asking, storing, reading, Client, State, server-of}
-use Rattle.machine.specs.Law.{In}
+use Rattle.server.specs.declared.state.Listener.{Listener}
+use Rattle.server.specs.Serving.{ServerState}
+use Rattle.protocol.specs.Settings.{Setting, Lawful}
+use Rattle.protocol.specs.Clients.{Phase, idle, asking, storing, reading, Client}
+use Rattle.protocol.specs.Runs.{In}
+use Rattle.machine.specs.Machine.{Msg, query, ts, store, ack, value, stop, Event, chose, State, server-of}
 use Rattle.machine.proofs.Base.{t≢f, either, eq-of, eqb-same, All, Le, le-trans, le-eq}
 use Rattle.machine.proofs.Safe.{Genuine, Past, Safe, Later, genuine-later}
 
@@ -283,6 +287,6 @@ module _ {S V : Type 0} (K : Setting S V) where
       acks = λ s v acks e i. keep _ refl i;
       values = λ r e s v i. keep _ refl i;
       reads = λ k i. inl (keep _ refl i);
-      listener = inl (ap (λ (x : Server S V). x .listener c) e);
+      listener = inl (ap (λ (x : ServerState S V). x .listener c) e);
       choices = ch;
     }

@@ -10,8 +10,11 @@ use Rattle.std.specs.declared.option.Option.{Option}
 use Rattle.std.specs.declared.option.Option.the-variants.{Some, None}
 use Rattle.timestamps.specs.Laws.{higher}
 use Rattle.reading.specs.Readings.{Reading, updated, level}
-use Rattle.machine.specs.Machine.{Setting, Lawful, Msg, query, ts, store, ack, value, stop, Event, chose, finished, spent, Server, Phase, idle, asking, storing, reading, Client, State, to-all, client-of, set-client, dropped, chosen, on-ts, on-ack}
-use Rattle.machine.specs.Law.{In, here, there}
+use Rattle.server.specs.Serving.{ServerState}
+use Rattle.protocol.specs.Settings.{Setting, Lawful}
+use Rattle.protocol.specs.Clients.{Phase, idle, asking, storing, reading, Client, to-all}
+use Rattle.protocol.specs.Runs.{In, here, there}
+use Rattle.machine.specs.Machine.{Msg, query, ts, store, ack, value, stop, Event, chose, finished, spent, State, client-of, set-client, dropped, chosen, on-ts, on-ack}
 use Rattle.machine.proofs.Base.{zero≢one, t≢f, by-cond, eq-of, eqb-same, updated-elim, updated-at, All, all-++, all-to, in-cons, in-left, in-right, in-to, Le, level-refl}
 use Rattle.machine.proofs.Safe.{Good, Safe, Later}
 use Rattle.machine.proofs.Past.{old-chose, old-prior}
@@ -63,7 +66,7 @@ module _ {S V : Type 0} (K : Setting S V) (L : Lawful K) where
     acks = λ s v acks e i. kept _ i (ha s v acks e);
     values = λ r e s v i. kept _ i (hv r e s v);
     reads = λ k i. inl (kept _ i (λ l. tc _ l));
-    listener = inl (ap (λ (x : Server S V). x .listener c) e);
+    listener = inl (ap (λ (x : ServerState S V). x .listener c) e);
     choices = ch;
   }
     where

@@ -10,8 +10,10 @@ use lib.Dec.{eqb}
 use Rattle.std.specs.declared.option.Option.{Option}
 use Rattle.std.specs.declared.option.Option.the-variants.{Some, None}
 use Rattle.reading.specs.Readings.{Reading, updated, level, among, newer, raised, noted, backers, leaders, rewatched, heard, decide}
-use Rattle.machine.specs.Machine.{Setting, Lawful, Msg, value, stop, Event, chose, finished, Phase, idle, asking, storing, reading, Client, State, to-all, client-of, set-client, dropped, decided, on-value}
-use Rattle.machine.specs.Law.{In}
+use Rattle.protocol.specs.Settings.{Setting, Lawful}
+use Rattle.protocol.specs.Clients.{Phase, idle, asking, storing, reading, Client, to-all}
+use Rattle.protocol.specs.Runs.{In}
+use Rattle.machine.specs.Machine.{Msg, value, stop, Event, chose, finished, State, client-of, set-client, dropped, decided, on-value}
 use Rattle.machine.proofs.Base.{zero≢one, t≢f, by-cond, eq-of, eqb-same, and-l, and-r, and-both, updated-elim, updated-at, All, all-to, in-left, Le, le-trans, lt-le, le-eq, level-eq, level-refl}
 use Rattle.machine.proofs.Safe.{Genuine, Seen, Good, ReadOk, GoodPhase, Safe}
 use Rattle.machine.proofs.Past.{old-chose, old-prior}

@@ -10,8 +10,13 @@ use lib.Dec.{T, eqb}
 use Rattle.std.specs.declared.option.Option.{Option}
 use Rattle.std.specs.declared.option.Option.the-variants.{Some, None}
 use Rattle.reading.specs.Readings.{unread, updated, says, backers}
-use Rattle.machine.specs.Machine.{Setting, Lawful, Msg, query, ts, store, ack, value, stop, Event, begun, Server, Phase, idle, asking, storing, reading, Client, State, Call, write, deliver, turn, forge, to-all, lift, server-of, client-of, set-server, at-server, set-client, dropped, turned, forged, server-query, server-read, server-stop, server-store, handed, taken, free, may-forge, made, step, opened, run}
-use Rattle.machine.specs.Law.{In, Laws}
+use Rattle.server.specs.Serving.{ServerState}
+use Rattle.protocol.specs.Settings.{Setting, Lawful}
+use Rattle.protocol.specs.Clients.{Phase, idle, asking, storing, reading, Client, to-all}
+use Rattle.protocol.specs.Protocol.{lift}
+use Rattle.protocol.specs.Runs.{In}
+use Rattle.machine.specs.Machine.{Msg, query, ts, store, ack, value, stop, Event, begun, State, Call, write, deliver, turn, forge, server-of, client-of, set-server, at-server, set-client, dropped, turned, forged, server-query, server-read, server-stop, server-store, handed, taken, free, may-forge, made, step, opened, run}
+use Rattle.machine.specs.Law.{Laws}
 use Rattle.machine.proofs.Base.{t≢f, by-cond, eq-of, eqb-same, lt-of, and-l, not-true, updated-elim, All, all-++, all-to, all-lift, in-lift, in-left, in-right, in-to}
 use Rattle.machine.proofs.Safe.{Seen, Good, Safe, Later}
 use Rattle.machine.proofs.Past.{old-chose, new-prior}
@@ -25,7 +30,7 @@ use Rattle.machine.proofs.LiveRead.{live-value-number, live-value}
 
 module _ {S V : Type 0} (K : Setting S V) (L : Lawful K) where
   module _ (σ : State S V) (A : Live K σ) (I : Safe K σ) where
-    live-at-server : (b : ℕ) (rest : List (Msg S V)) (f : Server S V → Server S V × List (Msg S V)) → (σ .faulty b ≡ true → Live K (set-server σ b rest (σ .servers b) [])) →
+    live-at-server : (b : ℕ) (rest : List (Msg S V)) (f : ServerState S V → ServerState S V × List (Msg S V)) → (σ .faulty b ≡ true → Live K (set-server σ b rest (σ .servers b) [])) →
         (σ .faulty b ≡ false → Live K (set-server σ b rest (f (σ .servers b) .0) (f (σ .servers b) .1))) → Live K (at-server σ b rest f)
     live-at-server b rest f g h = by-cond (Live K) (σ .faulty b) _ _ g h
 

@@ -7,8 +7,12 @@ use Prim.Native.Nat.{ℕ, zero, suc, _≤_, _<_}
 use native.Mathlib.Omega.{arith}
 use lib.Dec.{leb, ltb, eqb}
 use Rattle.reading.specs.Readings.{Reading, updated}
-use Rattle.machine.specs.Machine.{Setting, Lawful, Msg, query, ts, store, ack, value, stop, Listener, Server, reading, Client, State, server-of, set-server, server-read, server-stop, passed-to, passed-on, server-store}
-use Rattle.machine.specs.Law.{In, here, there}
+use Rattle.server.specs.declared.state.Listener.{Listener}
+use Rattle.server.specs.Serving.{ServerState}
+use Rattle.protocol.specs.Settings.{Setting, Lawful}
+use Rattle.protocol.specs.Clients.{reading, Client}
+use Rattle.protocol.specs.Runs.{In, here, there}
+use Rattle.machine.specs.Machine.{Msg, query, ts, store, ack, value, stop, State, server-of, set-server, server-read, server-stop, passed-to, passed-on, server-store}
 use Rattle.machine.proofs.Base.{zero≢one, t≢f, by-cond, eq-of, eqb-same, lt-of, ge-of, le-of, updated-at, All, all-++, in-left, in-right, Le}
 use Rattle.machine.proofs.Safe.{Good, Safe, Moves, stays, server-later}
 use Rattle.machine.proofs.SafeServer.{stored-moves, stored-reach, after-read, after-read-moves, after-stop, after-stop-moves}
@@ -39,7 +43,7 @@ module _ {S V : Type 0} (K : Setting S V) (L : Lawful K) where
     stay : (ms : List (Msg S V)) (l : Msg S V) → In l (σ .queue) → (l ≡ l₀ → ⊥) → In l (rest ++ ms)
     stay ms l i ne = elim (keep l i) [ inl e ↦ absurd (ne e) | inr j ↦ in-left rest ms j ]
 
-    pub live-server : (x : Server S V) (ms : List (Msg S V)) → Moves K (σ .servers b) x → All (StopOk K (σ .clients)) ms →
+    pub live-server : (x : ServerState S V) (ms : List (Msg S V)) → Moves K (σ .servers b) x → All (StopOk K (σ .clients)) ms →
         (σ .faulty b ≡ false → (c : ℕ) → Flow K σ (set-server σ b rest x ms) c b) → Live K (set-server σ b rest x ms)
     live-server x ms M sl at = live-flow K L A I (server-later K L σ b rest x ms M) flow (all-++ (StopOk K (σ .clients)) rest ms st sl) (λ c cm. refl)
       where
@@ -71,7 +75,7 @@ module _ {S V : Type 0} (K : Setting S V) (L : Lawful K) where
       acks = λ s v acks e i. stay ms _ i (ha _ _ _);
       values = λ r e s v i. stay ms _ i (hv _ _ _ _);
       reads = λ k i. elim (keep _ i) [ inl e ↦ inr (λ lt. absurd (let a = hr c k e in omega arith)) | inr i ↦ inl (in-left rest ms i) ];
-      listener = inl (ap (λ (x : Server S V). x .listener c) (updated-at (σ .servers) b (σ .servers b)));
+      listener = inl (ap (λ (x : ServerState S V). x .listener c) (updated-at (σ .servers) b (σ .servers b)));
       choices = λ u k s v i. inl i;
     })
 
@@ -94,11 +98,11 @@ module _ {S V : Type 0} (K : Setting S V) (L : Lawful K) where
           acks = λ s v acks e i. kept _ i (λ e. zero≢one cc);
           values = λ r e s v i. kept _ i (λ e. zero≢one cc);
           reads = λ k i. inl (kept _ i (λ e. zero≢one cc));
-          listener = inl (ap (λ (x : Server S V). x .listener c) (updated-at (σ .servers) b x));
+          listener = inl (ap (λ (x : ServerState S V). x .listener c) (updated-at (σ .servers) b x));
           choices = λ u k s v i. inl i;
         })
       where
-        x : Server S V
+        x : ServerState S V
         x = server-store K c₀ b k₀ s₀ v₀ (σ .servers b) .0
 
         ms : List (Msg S V)
@@ -114,7 +118,7 @@ module _ {S V : Type 0} (K : Setting S V) (L : Lawful K) where
             let e3 : v₀ ≡ v = cc in
             record {
               acked = subst (λ (l : Msg S V). In l (rest ++ ms)) e1 (in-right rest ms here);
-              held = subst (λ s. Le K s (updated (σ .servers) b x b .timestamp)) e2 (subst (λ (y : Server S V). Le K s₀ (y .timestamp)) (sym (updated-at (σ .servers) b x)) (stored-reach K L σ I rest r c₀ b k₀ f s₀ v₀));
+              held = subst (λ s. Le K s (updated (σ .servers) b x b .timestamp)) e2 (subst (λ (y : ServerState S V). Le K s₀ (y .timestamp)) (sym (updated-at (σ .servers) b x)) (stored-reach K L σ I rest r c₀ b k₀ f s₀ v₀));
               passed = λ cm o l. in-right rest ms (there (subst (λ s. In (value c b (σ .servers b .listener c .number) s v) (passed-on K b (K .clientCount) (σ .servers b .listener) s₀ v₀)) e2
                   (subst (λ v. In (value c b (σ .servers b .listener c .number) s₀ v) (passed-on K b (K .clientCount) (σ .servers b .listener) s₀ v₀)) e3
                   (passed-on-in b (K .clientCount) (σ .servers b .listener) s₀ v₀ c cm o (subst (Le K (σ .servers b .listener c .start)) (sym e2) l)))));
@@ -122,7 +126,7 @@ module _ {S V : Type 0} (K : Setting S V) (L : Lawful K) where
 
     pub live-read : k₀ ≤ σ .clients c₀ .number → ((l : Msg S V) → In l (σ .queue) → (l ≡ Msg.read c₀ b k₀) ⊎ In l rest) →
         Live K (set-server σ b rest (server-read c₀ b k₀ (σ .servers b) .0) (server-read c₀ b k₀ (σ .servers b) .1))
-    live-read h keep = by-cond (λ (p : Server S V × List (Msg S V)). Live K (set-server σ b rest (p .0) (p .1))) (ltb (σ .servers b .listener c₀ .number) k₀) (x, ms) (σ .servers b, [])
+    live-read h keep = by-cond (λ (p : ServerState S V × List (Msg S V)). Live K (set-server σ b rest (p .0) (p .1))) (ltb (σ .servers b .listener c₀ .number) k₀) (x, ms) (σ .servers b, [])
         (λ e. live-server σ A I rest st b (Msg.read c₀ b k₀) refl keep x ms (after-read-moves K L σ I rest r c₀ b k₀ f (lt-of _ _ e)) (tt, tt) (λ g c. record {
           queries = λ k i. inl (kept _ i (λ e. zero≢one cc));
           tss = λ v told t₀ e t i. inl (kept _ i (λ e. zero≢one cc));
@@ -137,7 +141,7 @@ module _ {S V : Type 0} (K : Setting S V) (L : Lawful K) where
         (λ c k e. absurd (zero≢one cc)) (λ c k s e. zero≢one cc) (λ c k s v e. zero≢one cc) (λ c k s e. zero≢one cc) (λ c k s v e. zero≢one cc)
         (λ c k g. old c k (ge-of _ _ e) g))
       where
-        x : Server S V
+        x : ServerState S V
         x = after-read K L σ I rest r c₀ b k₀ f
 
         ms : List (Msg S V)
@@ -153,7 +157,7 @@ module _ {S V : Type 0} (K : Setting S V) (L : Lawful K) where
             subst (λ c. k ≤ σ .servers b .listener c .number) e2 (omega arith)
 
         listeners-at : updated (σ .servers) b x b .listener c₀ ≡ record { number = k₀; listening = true; start = σ .servers b .timestamp }
-        listeners-at = ap (λ (y : Server S V). y .listener c₀) (updated-at (σ .servers) b x) ∙ updated-at (σ .servers b .listener) c₀ _
+        listeners-at = ap (λ (y : ServerState S V). y .listener c₀) (updated-at (σ .servers) b x) ∙ updated-at (σ .servers b .listener) c₀ _
 
         listened-at : (c k : ℕ) → _≡_ {A = Msg S V} (Msg.read c b k) (Msg.read c₀ b k₀) → updated (σ .servers) b x b .listener c .number ≡ k
         listened-at c k e =
@@ -173,12 +177,12 @@ module _ {S V : Type 0} (K : Setting S V) (L : Lawful K) where
               new = lt;
               number = h;
               sent = in-right rest ms here;
-              held = ap (λ (y : Server S V). y .timestamp) (updated-at (σ .servers) b x);
+              held = ap (λ (y : ServerState S V). y .timestamp) (updated-at (σ .servers) b x);
             }
 
             go : (t : Bool) → eqb c₀ c ≡ t → ListenerStep K σ (set-server σ b rest x ms) c b
             go true e = inr (inl (subst (λ c. ListenerRead K σ (set-server σ b rest x ms) c b) (eq-of c₀ c e) mine))
-            go false e = inl (ap (λ (y : Server S V). y .listener c) (updated-at (σ .servers) b x) ∙ ap (λ t. cond t (record { number = k₀; listening = true; start = σ .servers b .timestamp }) (σ .servers b .listener c)) e)
+            go false e = inl (ap (λ (y : ServerState S V). y .listener c) (updated-at (σ .servers) b x) ∙ ap (λ t. cond t (record { number = k₀; listening = true; start = σ .servers b .timestamp }) (σ .servers b .listener c)) e)
 
     pub live-stop : ((y : Reading S V) → σ .clients c₀ .phase ≡ reading y → k₀ < σ .clients c₀ .number) → ((l : Msg S V) → In l (σ .queue) → (l ≡ stop c₀ b k₀) ⊎ In l rest) →
         Live K (set-server σ b rest (server-stop c₀ b k₀ (σ .servers b) .0) [])
@@ -196,14 +200,14 @@ module _ {S V : Type 0} (K : Setting S V) (L : Lawful K) where
         (λ e. live-ignored σ A I rest st b (stop c₀ b k₀) refl keep [] tt
         (λ c k e. absurd (zero≢one cc)) (λ c k s e. zero≢one cc) (λ c k s v e. zero≢one cc) (λ c k s e. zero≢one cc) (λ c k s v e. zero≢one cc) (λ c k e. absurd (zero≢one cc)))
       where
-        x : Server S V
+        x : ServerState S V
         x = after-stop K L σ I rest r c₀ b k₀ f
 
         kept : (l : Msg S V) → In l (σ .queue) → (l ≡ stop c₀ b k₀ → ⊥) → In l (rest ++ [])
         kept l i ne = elim (keep l i) [ inl e ↦ absurd (ne e) | inr j ↦ in-left rest [] j ]
 
         listeners-at : updated (σ .servers) b x b .listener c₀ ≡ record { number = k₀; listening = false; start = σ .servers b .listener c₀ .start }
-        listeners-at = ap (λ (y : Server S V). y .listener c₀) (updated-at (σ .servers) b x) ∙ updated-at (σ .servers b .listener) c₀ _
+        listeners-at = ap (λ (y : ServerState S V). y .listener c₀) (updated-at (σ .servers) b x) ∙ updated-at (σ .servers b .listener) c₀ _
 
         listener-at : (c : ℕ) → σ .servers b .listener c₀ .number ≤ k₀ → ListenerStep K σ (set-server σ b rest x []) c b
         listener-at c lt = go (eqb c₀ c) refl
@@ -219,4 +223,4 @@ module _ {S V : Type 0} (K : Setting S V) (L : Lawful K) where
 
             go : (t : Bool) → eqb c₀ c ≡ t → ListenerStep K σ (set-server σ b rest x []) c b
             go true e = inr (inr (subst (λ c. ListenerStop K σ (set-server σ b rest x []) c b) (eq-of c₀ c e) mine))
-            go false e = inl (ap (λ (y : Server S V). y .listener c) (updated-at (σ .servers) b x) ∙ ap (λ t. cond t (record { number = k₀; listening = false; start = σ .servers b .listener c₀ .start }) (σ .servers b .listener c)) e)
+            go false e = inl (ap (λ (y : ServerState S V). y .listener c) (updated-at (σ .servers) b x) ∙ ap (λ t. cond t (record { number = k₀; listening = false; start = σ .servers b .listener c₀ .start }) (σ .servers b .listener c)) e)

@@ -9,7 +9,7 @@ use lib.Dec.{ltb, eqb}
 use Rattle.std.specs.declared.option.Option.{Option}
 use Rattle.std.specs.declared.option.Option.the-variants.{Some, None}
 use Rattle.reading.specs.Readings.{Reading, level, among, ahead, backers, value-of, better, leads, leaders, backed, decide}
-use Rattle.machine.specs.Machine.{Setting, Lawful}
+use Rattle.protocol.specs.Settings.{Setting, Lawful}
 use Rattle.machine.proofs.Base.{t≢f, Some≢None, either, eq-of, lt-of, and-l, and-r, and-both, Le, le-trans, lt-le, le-eq, level-eq, level-refl}
 use Rattle.machine.proofs.SafeRead.{says-some}
 

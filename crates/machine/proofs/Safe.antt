@@ -9,8 +9,12 @@ use native.Mathlib.Nat.{le-refl}
 use Rattle.std.specs.declared.option.Option.{Option}
 use Rattle.std.specs.declared.option.Option.the-variants.{Some, None}
 use Rattle.reading.specs.Readings.{Reading, updated}
-use Rattle.machine.specs.Machine.{Setting, Lawful, Msg, query, ts, store, ack, value, stop, Event, begun, chose, finished, Listener, Server, Phase, idle, asking, storing, reading, Client, State, is-asking, set-server}
-use Rattle.machine.specs.Law.{In, there, Before, then, since}
+use Rattle.server.specs.declared.state.Listener.{Listener}
+use Rattle.server.specs.Serving.{ServerState}
+use Rattle.protocol.specs.Settings.{Setting, Lawful}
+use Rattle.protocol.specs.Clients.{Phase, idle, asking, storing, reading, Client}
+use Rattle.protocol.specs.Runs.{is-asking, In, there, Before, then, since}
+use Rattle.machine.specs.Machine.{Msg, query, ts, store, ack, value, stop, Event, begun, chose, finished, State, set-server}
 use Rattle.machine.proofs.Base.{updated-elim, All, all-map, all-++, Le, le-trans}
 
 module _ {S V : Type 0} where
@@ -43,7 +47,7 @@ module _ {S V : Type 0} (K : Setting S V) where
   Genuine h s v = ((s ≡ K .lowest) × (v ≡ K .initial)) ⊎ ((c : ℕ) × (k : ℕ) × In (chose c k s v) h)
 
   -- what a correct server b, now x, has told client c, now at number current, in operation k: genuine, held by the server, and not below what finished on it before
-  pub record SeenAt (h : List (Event S V)) (current : ℕ) (x : Server S V) (c b k : ℕ) (s : S) (v : V) : Type 0 where
+  pub record SeenAt (h : List (Event S V)) (current : ℕ) (x : ServerState S V) (c b k : ℕ) (s : S) (v : V) : Type 0 where
     pub number : k ≤ current
     pub genuine : Genuine h s v
     pub held : Le K s (x .timestamp)
@@ -77,7 +81,7 @@ module _ {S V : Type 0} (K : Setting S V) where
     pub held : Le K (e .start) timestamp
 
   -- a correct server: it holds a genuine pair, not below any that finished on it
-  pub record GoodServer (h : List (Event S V)) (cs : ℕ → Client S V) (b : ℕ) (x : Server S V) : Type 0 where
+  pub record GoodServer (h : List (Event S V)) (cs : ℕ → Client S V) (b : ℕ) (x : ServerState S V) : Type 0 where
     pub genuine : Genuine h (x .timestamp) (x .value)
     pub reach : (s : S) (q : ℕ → Bool) → Finish h s q → q b ≡ true → Le K s (x .timestamp)
     pub listener : (c : ℕ) → GoodListener h (cs c .number) b c (x .listener c) (x .timestamp)
@@ -146,7 +150,7 @@ module _ {S V : Type 0} (K : Setting S V) where
     pub start : (b c : ℕ) → τ .servers b .listener c .number ≡ σ .servers b .listener c .number → τ .servers b .listener c .start ≡ σ .servers b .listener c .start
 
   -- a server moves on
-  pub record Moves (x y : Server S V) : Type 0 where
+  pub record Moves (x y : ServerState S V) : Type 0 where
     pub held : Le K (x .timestamp) (y .timestamp)
     pub listener : (c : ℕ) → x .listener c .number ≤ y .listener c .number
     pub start : (c : ℕ) → y .listener c .number ≡ x .listener c .number → y .listener c .start ≡ x .listener c .start
@@ -201,10 +205,10 @@ module _ {S V : Type 0} (K : Setting S V) where
         evidence = λ b s v f i. seen-later (g .evidence b s v (E .correct b f) i);
       }
 
-    pub stays : (x : Server S V) → Moves x x
+    pub stays : (x : ServerState S V) → Moves x x
     stays x = record { held = L .timestamps .irreflexive (x .timestamp); listener = λ c. le-refl _; start = λ c e. refl }
 
-    module _ (σ : State S V) (b : ℕ) (rest : List (Msg S V)) (x : Server S V) (ms : List (Msg S V)) (M : Moves (σ .servers b) x) where
+    module _ (σ : State S V) (b : ℕ) (rest : List (Msg S V)) (x : ServerState S V) (ms : List (Msg S V)) (M : Moves (σ .servers b) x) where
       moves-any : (d : ℕ) → Moves (σ .servers d) (updated (σ .servers) b x d)
       moves-any d = updated-elim (Moves (σ .servers d)) (σ .servers) b x d (λ e. subst (λ i. Moves (σ .servers i) x) e M) (stays (σ .servers d))
 

@@ -11,8 +11,10 @@ use Rattle.std.specs.declared.option.Option.{Option}
 use Rattle.std.specs.declared.option.Option.the-variants.{Some, None}
 use Rattle.timestamps.specs.Laws.{higher}
 use Rattle.reading.specs.Readings.{updated, level}
-use Rattle.machine.specs.Machine.{Setting, Lawful, Msg, store, Event, chose, finished, spent, Phase, idle, asking, storing, reading, Client, State, to-all, is-asking, set-client, dropped, chosen, on-ts, on-ack}
-use Rattle.machine.specs.Law.{In, here}
+use Rattle.protocol.specs.Settings.{Setting, Lawful}
+use Rattle.protocol.specs.Clients.{Phase, idle, asking, storing, reading, Client, to-all}
+use Rattle.protocol.specs.Runs.{is-asking, In, here}
+use Rattle.machine.specs.Machine.{Msg, store, Event, chose, finished, spent, State, set-client, dropped, chosen, on-ts, on-ack}
 use Rattle.machine.proofs.Base.{t≢f, Some≢None, by-cond, eq-of, updated-elim, updated-at, All, all-map, all-++, all-to, in-right, Le, le-trans, lt-le, lt-le-lt-r, le-eq, le-higher-l, le-higher-r, successor-candidate, level-eq}
 use Rattle.machine.proofs.Safe.{Finish, Prior, prior-finish, Genuine, Told, Good, AskOk, StoreOk, GoodPhase, Past, Safe, Later, genuine-later, good-later, phase-later}
 use Rattle.machine.proofs.Past.{old-prior, old-finish, new-finish, Grows, past-none, past-spent, past-chose, past-finished}

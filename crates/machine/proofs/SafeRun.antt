@@ -10,8 +10,13 @@ use lib.Dec.{ltb, eqb}
 use Rattle.std.specs.declared.option.Option.{Option}
 use Rattle.std.specs.declared.option.Option.the-variants.{Some, None}
 use Rattle.reading.specs.Readings.{unread, updated}
-use Rattle.machine.specs.Machine.{Setting, Lawful, Msg, query, ts, store, ack, value, stop, Event, begun, Server, Phase, idle, asking, reading, Client, State, Call, write, deliver, turn, forge, lift, server-of, set-server, at-server, set-client, dropped, turned, forged, server-query, server-read, server-stop, server-store, handed, taken, free, may-forge, made, step, opened, run}
-use Rattle.machine.specs.Law.{In, here, Laws}
+use Rattle.server.specs.Serving.{ServerState}
+use Rattle.protocol.specs.Settings.{Setting, Lawful}
+use Rattle.protocol.specs.Clients.{Phase, idle, asking, reading, Client}
+use Rattle.protocol.specs.Protocol.{lift}
+use Rattle.protocol.specs.Runs.{In, here}
+use Rattle.machine.specs.Machine.{Msg, query, ts, store, ack, value, stop, Event, begun, State, Call, write, deliver, turn, forge, server-of, set-server, at-server, set-client, dropped, turned, forged, server-query, server-read, server-stop, server-store, handed, taken, free, may-forge, made, step, opened, run}
+use Rattle.machine.specs.Law.{Laws}
 use Rattle.machine.proofs.Base.{t≢f, Some≢None, by-cond, eq-of, and-r, updated-elim, All, all-map, all-++, all-to, all-lift}
 use Rattle.machine.proofs.Safe.{Seen, Told, Good, GoodPhase, Safe, Later, good-later, phase-later}
 use Rattle.machine.proofs.SafeServer.{safe-quiet, safe-query, safe-store, safe-read, safe-stop}
@@ -42,7 +47,7 @@ module _ {S V : Type 0} (K : Setting S V) (L : Lawful K) where
         es : List (Event S V)
         es = begun c (suc (σ .clients c .number)) o ∷ []
 
-    safe-at-server : (b : ℕ) (rest : List (Msg S V)) (f : Server S V → Server S V × List (Msg S V)) → All (Good K σ) rest →
+    safe-at-server : (b : ℕ) (rest : List (Msg S V)) (f : ServerState S V → ServerState S V × List (Msg S V)) → All (Good K σ) rest →
         (σ .faulty b ≡ false → Safe K (set-server σ b rest (f (σ .servers b) .0) (f (σ .servers b) .1))) → Safe K (at-server σ b rest f)
     safe-at-server b rest f r g = by-cond (Safe K) (σ .faulty b) _ _ (λ e. safe-quiet K L σ I rest r b) g
 

@@ -8,8 +8,11 @@ use native.Mathlib.Omega.{arith}
 use native.Mathlib.Nat.{le-refl}
 use lib.Dec.{leb, ltb}
 use Rattle.reading.specs.Readings.{updated}
-use Rattle.machine.specs.Machine.{Setting, Lawful, Msg, ts, ack, value, chose, Listener, Server, State, set-server, server-read, server-stop, passed-to, passed-on, server-store}
-use Rattle.machine.specs.Law.{In}
+use Rattle.server.specs.declared.state.Listener.{Listener}
+use Rattle.server.specs.Serving.{ServerState}
+use Rattle.protocol.specs.Settings.{Setting, Lawful}
+use Rattle.protocol.specs.Runs.{In}
+use Rattle.machine.specs.Machine.{Msg, ts, ack, value, chose, State, set-server, server-read, server-stop, passed-to, passed-on, server-store}
 use Rattle.machine.proofs.Base.{t≢f, by-cond, lt-of, le-of, and-l, and-r, not-true, updated-elim, updated-at, All, all-++, Le, le-trans, lt-le, le-eq}
 use Rattle.machine.proofs.Safe.{prior-finish, Genuine, SeenAt, Good, GoodListener, GoodServer, Safe, Moves, stays, safe-server}
 
@@ -46,7 +49,7 @@ module _ {S V : Type 0} (K : Setting S V) (L : Lawful K) (σ : State S V) (I : S
     pub safe-store : (s : S) (v : V) → In (chose c k s v) (σ .history) → Safe K (set-server σ b rest (server-store K c b k s v (σ .servers b) .0) (server-store K c b k s v (σ .servers b) .1))
     safe-store s v i = safe-server K L σ b rest x ms (stored-moves s v) I r (λ g. stored-good s v i) (sent-ack, sent (K .clientCount))
       where
-        x : Server S V
+        x : ServerState S V
         x = server-store K c b k s v (σ .servers b) .0
 
         ms : List (Msg S V)
@@ -80,7 +83,7 @@ module _ {S V : Type 0} (K : Setting S V) (L : Lawful K) (σ : State S V) (I : S
         sent (suc u) = all-++ (Good K τ) (passed-on K b u (σ .servers b .listener) s v) (passed-to K b u (σ .servers b .listener u) s v) (sent u) (one u _ refl)
 
     -- the server after a READ that it takes
-    abbrev pub after-read : Server S V
+    abbrev pub after-read : ServerState S V
     after-read = record { timestamp = σ .servers b .timestamp; value = σ .servers b .value; listener = updated (σ .servers b .listener) c (record { number = k; listening = true; start = σ .servers b .timestamp }) }
 
     pub after-read-moves : σ .servers b .listener c .number < k → Moves K (σ .servers b) after-read
@@ -106,7 +109,7 @@ module _ {S V : Type 0} (K : Setting S V) (L : Lawful K) (σ : State S V) (I : S
     }
 
     pub safe-read : k ≤ σ .clients c .number → Safe K (set-server σ b rest (server-read c b k (σ .servers b) .0) (server-read c b k (σ .servers b) .1))
-    safe-read h = by-cond (λ (p : Server S V × List (Msg S V)). Safe K (set-server σ b rest (p .0) (p .1))) (ltb (σ .servers b .listener c .number) k)
+    safe-read h = by-cond (λ (p : ServerState S V × List (Msg S V)). Safe K (set-server σ b rest (p .0) (p .1))) (ltb (σ .servers b .listener c .number) k)
         (after-read, value c b k (σ .servers b .timestamp) (σ .servers b .value) ∷ []) (σ .servers b, [])
         (λ e. let h′ = lt-of _ _ e in
         safe-server K L σ b rest after-read (value c b k (σ .servers b .timestamp) (σ .servers b .value) ∷ []) (after-read-moves h′) I r (λ g. after-read-good h) ((λ g. sent), tt))
@@ -128,7 +131,7 @@ module _ {S V : Type 0} (K : Setting S V) (L : Lawful K) (σ : State S V) (I : S
             })
 
     -- the server after a STOP that it takes
-    abbrev pub after-stop : Server S V
+    abbrev pub after-stop : ServerState S V
     after-stop = record { timestamp = σ .servers b .timestamp; value = σ .servers b .value; listener = updated (σ .servers b .listener) c (record { number = k; listening = false; start = σ .servers b .listener c .start }) }
 
     pub after-stop-moves : σ .servers b .listener c .number ≤ k → Moves K (σ .servers b) after-stop

@@ -6,17 +6,10 @@ use mathlib.Core.Logic.{_⊎_}
 use Prim.Native.Nat.{ℕ, _<_}
 use Rattle.std.specs.declared.option.Option.{Option}
 use Rattle.std.specs.declared.option.Option.the-variants.{Some, None}
-use Rattle.machine.specs.Machine.{Setting, Lawful, Msg, Event, begun, chose, finished, idle, State, Call, server-of, run}
-
--- an element is in a list
-pub data In {A : Type 0} (a : A) : List A → Type 0 where
-  here : {xs : List A} → In a (a ∷ xs)
-  there : {x : A} {xs : List A} → In a xs → In a (x ∷ xs)
-
--- of a history, the newest event first: a happened, and b after it
-pub data Before {A : Type 0} (a b : A) : List A → Type 0 where
-  then : {xs : List A} → In a xs → Before a b (b ∷ xs)
-  since : {x : A} {xs : List A} → Before a b xs → Before a b (x ∷ xs)
+use Rattle.protocol.specs.Settings.{Setting, Lawful}
+use Rattle.protocol.specs.Clients.{idle}
+use Rattle.protocol.specs.Runs.{In, Before}
+use Rattle.machine.specs.Machine.{Msg, Event, begun, chose, finished, State, Call, server-of, run}
 
 -- what holds of a register with this history
 pub record Laws {S V : Type 0} (K : Setting S V) (σ : State S V) : Type 0 where

@@ -1,5 +1,4 @@
--- The register as a machine of calls: servers, clients and a queue of messages, over any quorum system, timestamps and values.
-use mathlib.Core.Path.{_≡_}
+-- The register's protocol as a machine over typed messages, with the history of what happened.
 use mathlib.Core.Bool.{Bool, true, false, cond, not, _&&_}
 use mathlib.Core.List.{List, [], _∷_, _++_}
 use Prim.Native.Nat.{ℕ, zero, suc}
@@ -7,27 +6,13 @@ use lib.Dec.{leb, ltb, eqb}
 use lib.ListN.{length}
 use Rattle.std.specs.declared.option.Option.{Option}
 use Rattle.std.specs.declared.option.Option.the-variants.{Some, None}
-use Rattle.quorums.specs.Laws.{QuorumLaws}
-use Rattle.timestamps.specs.Laws.{TimestampLaws, higher}
-use Rattle.values.specs.Laws.{ValueLaws}
+use Rattle.timestamps.specs.Laws.{higher}
 use Rattle.reading.specs.Readings.{Rules, Reading, unread, updated, level, backers, heard, decide}
-
--- what a register is made over: how many clients it has, how many messages its queue holds, the highest operation number, and the meanings of the three kinds
-pub record Setting (S V : Type 0) : Type 0 where
-  pub clientCount : ℕ
-  pub capacity : ℕ
-  pub most : ℕ
-  pub rules : Rules S V
-  pub owner : S → ℕ
-  pub lowest : S
-  pub successor : ℕ → S → S → Option S
-  pub initial : V
-
--- the three kinds have their laws
-pub record Lawful {S V : Type 0} (K : Setting S V) : Type 0 where
-  pub quorums : QuorumLaws (K .rules .n) (K .rules .quorum) (K .rules .failProne)
-  pub timestamps : TimestampLaws (K .rules .above) (K .owner) (K .lowest) (K .successor)
-  pub values : ValueLaws (K .rules .same)
+use Rattle.server.specs.declared.state.Listener.{Listener}
+use Rattle.server.specs.Serving.{ServerState}
+use Rattle.protocol.specs.Settings.{Setting}
+use Rattle.protocol.specs.Clients.{Phase, idle, asking, storing, reading, Client, to-all, is-idle, in-phase}
+use Rattle.protocol.specs.Protocol.{lift}
 
 -- a message between client c and server b, with the number k of the client's operation
 pub data Msg (S V : Type 0) : Type 0 where
@@ -46,35 +31,10 @@ pub data Event (S V : Type 0) : Type 0 where
   finished : (c k : ℕ) → S → Option V → (ℕ → Bool) → Event S V
   spent : (c k : ℕ) → Event S V
 
--- how a server listens to a client: the last number heard of, whether it listens, and from which timestamp
-pub record Listener (S : Type 0) : Type 0 where
-  pub number : ℕ
-  pub listening : Bool
-  pub start : S
-
--- what a server holds, and how it listens to each client
-pub record Server (S V : Type 0) : Type 0 where
-  pub timestamp : S
-  pub value : V
-  pub listener : ℕ → Listener S
-
--- what a client is about: nothing; asking for timestamps, to write a value, with the servers that told theirs and the highest of these; storing a pair, with the servers that acknowledged it; reading
-pub data Phase (S V : Type 0) : Type 0 where
-  idle : Phase S V
-  asking : V → (ℕ → Bool) → S → Phase S V
-  storing : S → V → (ℕ → Bool) → Phase S V
-  reading : Reading S V → Phase S V
-
--- a client: the number of its last operation, the last timestamp that it chose, and its phase
-pub record Client (S V : Type 0) : Type 0 where
-  pub number : ℕ
-  pub last : S
-  pub phase : Phase S V
-
 -- the whole register: the faulty servers, all servers, all clients, the messages under way, and what happened, the newest event first
 pub record State (S V : Type 0) : Type 0 where
   pub faulty : ℕ → Bool
-  pub servers : ℕ → Server S V
+  pub servers : ℕ → ServerState S V
   pub clients : ℕ → Client S V
   pub queue : List (Msg S V)
   pub history : List (Event S V)
@@ -86,22 +46,6 @@ pub data Call (S V : Type 0) : Type 0 where
   deliver : ℕ → Call S V
   turn : ℕ → Call S V
   forge : Msg S V → Call S V
-
--- f 0, f 1, .. f (n - 1)
-abbrev pub to-all : {A : Type 0} → ℕ → (ℕ → A) → List A
-to-all zero f = []
-to-all (suc n) f = to-all n f ++ (f n ∷ [])
-
--- an element before the rest
-abbrev pub pushed : {A : Type 0} → A → Option (A × List A) → Option (A × List A)
-pushed x None = None
-pushed x (Some p) = Some (p .0, x ∷ p .1)
-
--- the element at a place, and the list without it
-abbrev pub lift : {A : Type 0} → ℕ → List A → Option (A × List A)
-lift k [] = None
-lift zero (x ∷ xs) = Some (x, xs)
-lift (suc k) (x ∷ xs) = pushed x (lift k xs)
 
 module _ {S V : Type 0} where
   -- the server that a message names
@@ -124,27 +68,13 @@ module _ {S V : Type 0} where
   client-of (value c b k s v) = c
   client-of (stop c b k) = c
 
-  -- the client has no operation open
-  abbrev pub is-idle : Phase S V → Bool
-  is-idle idle = true
-  is-idle (asking v told t) = false
-  is-idle (storing s v acks) = false
-  is-idle (reading r) = false
-
-  -- the client writes, and has no timestamp yet
-  abbrev pub is-asking : Phase S V → Bool
-  is-asking idle = false
-  is-asking (asking v told t) = true
-  is-asking (storing s v acks) = false
-  is-asking (reading r) = false
-
   -- server b becomes x and sends messages
-  abbrev pub set-server : State S V → ℕ → List (Msg S V) → Server S V → List (Msg S V) → State S V
+  abbrev pub set-server : State S V → ℕ → List (Msg S V) → ServerState S V → List (Msg S V) → State S V
   set-server σ b rest x ms =
       record { faulty = σ .faulty; servers = updated (σ .servers) b x; clients = σ .clients; queue = rest ++ ms; history = σ .history }
 
   -- server b does f with a message; a faulty one takes it and does nothing
-  abbrev pub at-server : State S V → ℕ → List (Msg S V) → (Server S V → Server S V × List (Msg S V)) → State S V
+  abbrev pub at-server : State S V → ℕ → List (Msg S V) → (ServerState S V → ServerState S V × List (Msg S V)) → State S V
   at-server σ b rest f =
       cond (σ .faulty b) (set-server σ b rest (σ .servers b) []) (set-server σ b rest (f (σ .servers b) .0) (f (σ .servers b) .1))
 
@@ -152,10 +82,6 @@ module _ {S V : Type 0} where
   abbrev pub set-client : State S V → ℕ → List (Msg S V) → Client S V → List (Msg S V) → List (Event S V) → State S V
   set-client σ c rest x ms es =
       record { faulty = σ .faulty; servers = σ .servers; clients = updated (σ .clients) c x; queue = rest ++ ms; history = es ++ σ .history }
-
-  -- a client in another phase of its operation
-  abbrev pub in-phase : Client S V → Phase S V → Client S V
-  in-phase x phase = record { number = x .number; last = x .last; phase = phase }
 
   -- a message is taken, and nothing else changes
   abbrev pub dropped : State S V → List (Msg S V) → State S V
@@ -170,21 +96,21 @@ module _ {S V : Type 0} where
   forged σ m = record { faulty = σ .faulty; servers = σ .servers; clients = σ .clients; queue = σ .queue ++ (m ∷ []); history = σ .history }
 
   -- QUERY: the server answers TS with the timestamp held
-  abbrev pub server-query : (c b k : ℕ) → Server S V → Server S V × List (Msg S V)
+  abbrev pub server-query : (c b k : ℕ) → ServerState S V → ServerState S V × List (Msg S V)
   server-query c b k x = (x, ts c b k (x .timestamp) ∷ [])
 
   -- a server that listens to client c otherwise
-  abbrev pub listening-by : Server S V → ℕ → Listener S → Server S V
+  abbrev pub listening-by : ServerState S V → ℕ → Listener S → ServerState S V
   listening-by x c e = record { timestamp = x .timestamp; value = x .value; listener = updated (x .listener) c e }
 
   -- READ with a number above the last one: the server listens from the timestamp held, and answers VALUE with the pair held
-  abbrev pub server-read : (c b k : ℕ) → Server S V → Server S V × List (Msg S V)
+  abbrev pub server-read : (c b k : ℕ) → ServerState S V → ServerState S V × List (Msg S V)
   server-read c b k x =
       cond (ltb (x .listener c .number) k)
       (listening-by x c (record { number = k; listening = true; start = x .timestamp }), value c b k (x .timestamp) (x .value) ∷ []) (x, [])
 
   -- STOP with a number not below the last one: the server no longer listens
-  abbrev pub server-stop : (c b k : ℕ) → Server S V → Server S V × List (Msg S V)
+  abbrev pub server-stop : (c b k : ℕ) → ServerState S V → ServerState S V × List (Msg S V)
   server-stop c b k x =
       (cond (leb (x .listener c .number) k) (listening-by x c (record { number = k; listening = false; start = x .listener c .start })) x, [])
 
@@ -199,7 +125,7 @@ module _ {S V : Type 0} (K : Setting S V) where
   passed-on b (suc c) listener s v = passed-on b c listener s v ++ passed-to b c (listener c) s v
 
   -- STORE: the server holds the pair if its timestamp is above the one held, answers ACK, and passes the pair on
-  abbrev pub server-store : (c b k : ℕ) → S → V → Server S V → Server S V × List (Msg S V)
+  abbrev pub server-store : (c b k : ℕ) → S → V → ServerState S V → ServerState S V × List (Msg S V)
   server-store c b k s v x = (
     record {
       timestamp = cond (K .rules .above s (x .timestamp)) s (x .timestamp);
