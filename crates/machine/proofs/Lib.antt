@@ -12,3 +12,5 @@ pub mod LiveClient
 pub mod LiveWatch
 pub mod LiveRead
 pub mod LiveRun
+pub mod Meaning
+pub mod Delivers
