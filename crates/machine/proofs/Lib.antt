@@ -14,3 +14,4 @@ pub mod LiveRead
 pub mod LiveRun
 pub mod Meaning
 pub mod Delivers
+pub mod Follows
