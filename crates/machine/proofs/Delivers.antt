@@ -1,10 +1,9 @@
 -- The machine hands a message over as the protocol does.
 use mathlib.Core.Path.{_≡_, refl, sym, _∙_, ap, subst}
-use mathlib.Core.Bool.{Bool, true, false, cond, not, _&&_}
+use mathlib.Core.Bool.{Bool, true, false, cond}
 use mathlib.Core.List.{List, [], _∷_, _++_, map, append-nil}
-use Prim.Native.Nat.{ℕ, zero, suc, _≤_}
-use native.Mathlib.Omega.{arith}
-use lib.Dec.{leb, ltb, eqb}
+use Prim.Native.Nat.{ℕ, zero, suc}
+use lib.Dec.{ltb, eqb}
 use Rattle.std.specs.declared.option.Option.{Option}
 use Rattle.std.specs.declared.option.Option.the-variants.{Some, None}
 use Rattle.calls.specs.declared.Answer.{Answer}
@@ -13,7 +12,7 @@ use Rattle.network.specs.Kinds.{kind-of}
 use Rattle.network.specs.declared.message.Kind.{Kind}
 use Rattle.network.specs.declared.message.Kind.the-variants.{Query, Ts, Store, Ack, Read, Value, Stop}
 use Rattle.network.specs.declared.message.Message.{Message}
-use Rattle.reading.specs.Readings.{Reading, updated, level, backers, heard, decide}
+use Rattle.reading.specs.Readings.{Reading, updated, level}
 use Rattle.server.specs.declared.state.Listener.{Listener}
 use Rattle.server.specs.Serving as W
 use Rattle.server.specs.Serving.{ServerState, Reaction}
@@ -22,8 +21,8 @@ use Rattle.protocol.specs.Clients as C
 use Rattle.protocol.specs.Clients.{Phase, idle, asking, storing, reading, Client, Outcome}
 use Rattle.protocol.specs.Protocol.{State, with-server, with-client, from-server, at-server, at-client}
 use Rattle.protocol.specs.Runs.{In, here, there, is-asking}
-use Rattle.machine.specs.Machine as M
-use Rattle.machine.proofs.Base.{zero≢one, t≢f, in-cons}
+use Rattle.machine.proofs.Machine as M
+use Rattle.machine.proofs.Base.{zero≢one, t≢f}
 use Rattle.machine.proofs.Meaning.{by-both, updated-same, map-++, map-to-all, meaning, meant, shown, sent-behind}
 
 -- an answer that tells of no beginning and no end
@@ -76,6 +75,17 @@ module _ {S V : Type 0} (c : ℕ) (x : Client S V) (o : Outcome S V) where
         let i0 : d ≡ c = cc in let i1 : o .after .number ≡ k = cc in let i2 : o .after .phase ≡ storing t′ v′ acks = cc in (acks, i0, a, i1, i2);
   }
 
+  -- the write found no timestamp
+  tells-spent : (k : ℕ) → o .answer ≡ Spent c k → o .after .phase ≡ idle → Tells c x o (M.spent c k ∷ [])
+  tells-spent k p e = record {
+    begun-not = λ d k e′. zero≢one cc;
+    chosen = λ t′ v′ acks′ a′ e′. absurd (zero≢one cc);
+    ended-write = λ d k′ t′ e′. absurd (zero≢one cc);
+    ended-read = λ d k t v e′. absurd (zero≢one cc);
+    no-begun = λ d k u i. let e′ = in-one i in zero≢one cc;
+    from-chose = λ d k t′ v′ i. let e′ = in-one i in absurd (zero≢one cc);
+  }
+
   -- the write finished
   tells-write : (k : ℕ) (t : S) (q : ℕ → Bool) → o .answer ≡ FinishedWrite c k t → o .after .phase ≡ idle → Tells c x o (M.finished c k t None q ∷ [])
   tells-write k t q p e = record {
@@ -114,6 +124,7 @@ module _ {S V : Type 0} (K : Setting S V) where
     abbrev Reacts : M.State S V → Reaction S V → Type 0
     Reacts τ r = τ ≡ shown (with-server σ (m .server) (r .after) (rest ++ r .sent)) h
 
+    -- a server that becomes what the reaction says, and sends what means the same
     reacts : (x : ServerState S V) (ms : List (M.Msg S V)) (r : Reaction S V) → x ≡ r .after → ms ≡ map meaning (r .sent) → Reacts (M.set-server (shown σ h) (m .server) (map meaning rest) x ms) r
     reacts x ms r e q = λ i. record {
       faulty = σ .faulty;
@@ -123,6 +134,7 @@ module _ {S V : Type 0} (K : Setting S V) where
       history = h;
     }
 
+    -- the pair held after a STORE, field by field or as a whole
     store-after : (x : ServerState S V) (t : Bool) →
         _≡_ {A = ServerState S V} (record { timestamp = cond t (m .timestamp) (x .timestamp); value = cond t (m .value) (x .value); listener = x .listener }) (cond t (W.holding x (m .timestamp) (m .value)) x)
     store-after x true = refl
@@ -162,7 +174,7 @@ module _ {S V : Type 0} (K : Setting S V) where
         (cond (σ .faulty (m .server)) (W.ignored (K .rules .above) (K .lowest) (K .initial) (σ .servers (m .server)))
         (W.by-byte (K .rules .above) (K .lowest) (K .initial) o (K .clientCount) (σ .servers (m .server)) m))) (sym q) (server-kind kind e)
 
-    -- the message's client, and the machine's part of the queue
+    -- the message's client
     abbrev x : Client S V
     x = σ .clients (m .client)
 
@@ -170,6 +182,7 @@ module _ {S V : Type 0} (K : Setting S V) where
     abbrev Gives : M.State S V → Outcome S V → Type 0
     Gives τ o = (es : List (M.Event S V)) × (τ ≡ shown (with-client σ (m .client) (o .after) (rest ++ o .sent)) (es ++ h)) × Tells (m .client) x o es
 
+    -- a client that becomes what the outcome says, and sends what means the same
     gives : (o : Outcome S V) (ms : List (M.Msg S V)) (es : List (M.Event S V)) → ms ≡ map meaning (o .sent) → Tells (m .client) x o es →
         Gives (M.set-client (shown σ h) (m .client) (map meaning rest) (o .after) ms es) o
     gives o ms es q t = (
@@ -198,20 +211,12 @@ module _ {S V : Type 0} (K : Setting S V) where
       tells-none (m .client) x (C.unchanged x) refl (λ t v acks a e. t≢f a (ap is-asking e)),
     )
 
+    -- a quorum told its timestamps
     gives-chosen : (v : V) (o : Option S) → is-asking (x .phase) ≡ true → Gives (M.chosen K (shown σ h) (m .client) (map meaning rest) v o) (C.chosen K (m .client) x v o)
-    gives-chosen v None a = gives (C.chosen K (m .client) x v None) [] _ refl (tells-spent a)
-      where
-        tells-spent : is-asking (x .phase) ≡ true → Tells (m .client) x (C.chosen K (m .client) x v None) (M.spent (m .client) (x .number) ∷ [])
-        tells-spent a = record {
-          begun-not = λ d k e′. zero≢one cc;
-          chosen = λ t′ v′ acks′ a′ e′. absurd (zero≢one cc);
-          ended-write = λ d k′ t′ e′. absurd (zero≢one cc);
-          ended-read = λ d k t v e′. absurd (zero≢one cc);
-          no-begun = λ d k u i. let e′ = in-one i in zero≢one cc;
-          from-chose = λ d k t′ v′ i. let e′ = in-one i in absurd (zero≢one cc);
-        }
+    gives-chosen v None a = gives (C.chosen K (m .client) x v None) [] _ refl (tells-spent (m .client) x (C.chosen K (m .client) x v None) (x .number) refl refl)
     gives-chosen v (Some t) a = gives (C.chosen K (m .client) x v (Some t)) _ _ (sym (map-to-all meaning (K .rules .n) _)) (tells-chose (m .client) x (C.chosen K (m .client) x v (Some t)) t v (λ b. false) refl a refl)
 
+    -- TS of the open operation
     gives-ts : (ph : Phase S V) → x .phase ≡ ph → Gives (M.on-ts K (shown σ h) (m .client) (m .server) (m .timestamp) (map meaning rest) ph) (C.on-ts K x m ph)
     gives-ts idle e = gives-unchanged
     gives-ts (storing t v acks) e = gives-unchanged
@@ -221,6 +226,7 @@ module _ {S V : Type 0} (K : Setting S V) where
         (λ i. by-both Gives (K .rules .quorum (updated told (m .server) true)) _ _ _ _ (λ j. gives-chosen v _ (ap is-asking e))
         (λ j. gives _ [] [] refl (tells-none (m .client) x _ refl (λ t v acks a e′. zero≢one cc))))
 
+    -- ACK of the open operation
     gives-ack : (ph : Phase S V) → x .phase ≡ ph → Gives (M.on-ack K (shown σ h) (m .client) (m .server) (m .timestamp) (map meaning rest) ph) (C.on-ack K x m ph)
     gives-ack idle e = gives-unchanged
     gives-ack (asking v told t) e = gives-unchanged
@@ -231,10 +237,12 @@ module _ {S V : Type 0} (K : Setting S V) where
         (λ j. gives _ [] [] refl (tells-none (m .client) x _ refl (λ t v acks a e′. t≢f a (ap is-asking e)))))
         (λ i. gives-unchanged)
 
+    -- the read goes on, or is finished
     gives-decided : (r : Reading S V) (o : Option (S × V)) → Gives (M.decided K (shown σ h) (m .client) (map meaning rest) r o) (C.decided K (m .client) x r o)
     gives-decided r None = gives (C.decided K (m .client) x r None) [] [] refl (tells-none (m .client) x (C.decided K (m .client) x r None) refl (λ t v acks a e′. zero≢one cc))
     gives-decided r (Some p) = gives (C.decided K (m .client) x r (Some p)) _ _ (sym (map-to-all meaning (K .rules .n) _)) (tells-read (m .client) x (C.decided K (m .client) x r (Some p)) (x .number) (p .0) (p .1) _ refl refl)
 
+    -- VALUE of the open operation
     gives-value : (ph : Phase S V) → Gives (M.on-value K (shown σ h) (m .client) (m .server) (m .timestamp) (m .value) (map meaning rest) ph) (C.on-value K x m ph)
     gives-value idle = gives-unchanged
     gives-value (asking v told t) = gives-unchanged

@@ -7,7 +7,7 @@ use native.Mathlib.Omega.{arith}
 use lib.Dec.{leb}
 use lib.ListN.{length}
 use Rattle.protocol.specs.Settings.{Setting, Lawful}
-use Rattle.machine.specs.Machine.{State, Call, made, step, run}
+use Rattle.machine.proofs.Machine.{State, Call, made, step, run}
 use Rattle.machine.proofs.Base.{t≢f, by-cond, le-of}
 
 bool-both : (a b : Bool) → (a ≡ true → b ≡ true) → (b ≡ true → a ≡ true) → a ≡ b

@@ -5,31 +5,30 @@ use mathlib.Core.List.{List, [], _∷_, _++_, map}
 use mathlib.Core.Logic.{_⊎_, inl, inr}
 use Prim.Native.Nat.{ℕ, zero, suc, _+_, _-_, _≤_}
 use native.Mathlib.Omega.{arith}
-use lib.Dec.{leb, ltb, eqb, lt→ltb}
+use lib.Dec.{leb, ltb, lt→ltb}
 use lib.ListN.{length, length-append, length-map}
 use Rattle.std.specs.declared.option.Option.{Option}
 use Rattle.std.specs.declared.option.Option.the-variants.{Some, None}
 use Rattle.calls.specs.declared.Refusal.{Refusal}
-use Rattle.calls.specs.declared.Refusal.the-variants.{Memory, NoClient, NoServer, OperationOpen, NumbersUsedUp, NetworkFull, NoMessage, NotFailProne, ServerCorrect, NotServerKind}
+use Rattle.calls.specs.declared.Refusal.the-variants.{Memory, NetworkFull, NoMessage}
 use Rattle.calls.specs.Refusals.{Check, first-failed}
 use Rattle.calls.specs.declared.Call.{Call}
 use Rattle.calls.specs.declared.Call.the-variants.{Write, Deliver, Turn, Forge}
-use Rattle.calls.specs.declared.Answer.{Answer}
-use Rattle.calls.specs.declared.Answer.the-variants.{Begun, Taken, FinishedWrite, FinishedRead, Spent, Turned, Forged, Refused}
+use Rattle.calls.specs.declared.Answer.the-variants.{Begun}
 use Rattle.network.specs.Kinds.{kind-of}
 use Rattle.network.specs.declared.message.Kind.{Kind}
 use Rattle.network.specs.declared.message.Kind.the-variants.{Query, Ts, Store, Ack, Value, Stop}
 use Rattle.network.specs.declared.message.Message.{Message}
-use Rattle.reading.specs.Readings.{unread, updated}
+use Rattle.reading.specs.Readings.{updated}
 use Rattle.protocol.specs.Settings.{Setting}
 use Rattle.protocol.specs.Clients as C
-use Rattle.protocol.specs.Clients.{Phase, idle, asking, storing, reading, Client, Outcome, is-idle, to-all}
+use Rattle.protocol.specs.Clients.{storing, Client, Outcome, is-idle}
 use Rattle.protocol.specs.Protocol as P
-use Rattle.protocol.specs.Protocol.{State, Reply, with-client, with-server, from-server, may-be-sent, lift, overfull, refused, unless}
+use Rattle.protocol.specs.Protocol.{State, Reply, with-client, from-server, may-be-sent, lift, overfull, refused, unless}
 use Rattle.protocol.specs.Runs.{In, Step, is-asking, BeganWrite, BeganRead, Chose, EndedWrite, EndedRead}
-use Rattle.machine.specs.Machine as M
-use Rattle.machine.proofs.Base.{zero≢one, t≢f, by-cond, All, updated-elim, updated-at, eq-of, gt-of, true-of, not-true, not-false, and-both, eqb-same}
-use Rattle.machine.proofs.Meaning.{map-++, map-to-all, length-to-all, map-place, lift-map, meaning, meant, meaning-server, meaning-client, shown, sent-behind, has-room, step-is}
+use Rattle.machine.proofs.Machine as M
+use Rattle.machine.proofs.Base.{zero≢one, t≢f, by-cond, All, updated-elim, updated-at, gt-of, true-of, not-false, and-both}
+use Rattle.machine.proofs.Meaning.{map-to-all, length-to-all, map-place, lift-map, meaning, meant, meaning-server, meaning-client, shown, sent-behind, has-room, step-is}
 use Rattle.machine.proofs.Delivers.{plain, Tells, in-one, server-handed, client-handed}
 
 -- the events of a step
@@ -109,6 +108,7 @@ module _ {S V : Type 0} where
         is-storing = ap (λ (x : Client S V). x .phase) (updated-at (σ .clients) c (o .after)) ∙ p;
       })
 
+-- the list without an element is no longer
 pub length-lift : {A : Type 0} (k : ℕ) (xs : List A) (p : A × List A) → lift k xs ≡ Some p → length (p .1) ≤ length xs
 length-lift k [] p e = absurd (zero≢one cc)
 length-lift zero (x ∷ xs) p e = let q : p .1 ≡ xs = cc in let l : length (p .1) ≡ length xs = ap length q in omega arith
@@ -126,6 +126,7 @@ module _ {S V : Type 0} (K : Setting S V) where
     pub records : Records (record { before = σ; call = call; answer = r .answer; after = r .state }) events
 
   module _ (σ : State S V) (h : List (M.Event S V)) where
+    -- nothing is made of a call that is refused
     follows-refused : (call : Call S V) (e : Refusal) → Followed σ h call (refused σ e)
     follows-refused call e = record { events = []; reaches = inl refl; records = records-none _ refl (λ c. refl) }
 
@@ -139,6 +140,7 @@ module _ {S V : Type 0} (K : Setting S V) where
         go false e g = g e
 
     module _ (room : length (σ .queue) ≤ K .capacity) where
+      -- what is not overfull fits
       fits : (rest sent : List (Message S V)) → length rest ≤ K .capacity → overfull K (length rest) (length sent) ≡ false → length (map meaning (rest ++ sent)) ≤ K .capacity
       fits rest sent l e =
           let a = length-map (rest ++ sent) meaning in
@@ -172,6 +174,7 @@ module _ {S V : Type 0} (K : Setting S V) where
 
       -- a message is taken from the queue
       module _ (place : ℕ) (p : Message S V × List (Message S V)) (at : lift place (σ .queue) ≡ Some p) where
+        -- what the machine makes of the delivery
         made-deliver : P.named K (p .0) ≡ true → M.made K (shown σ h) (M.deliver place) ≡ M.handed K (shown σ h) (map meaning (p .1)) (meaning (p .0))
         made-deliver e =
             ap (M.taken K (shown σ h)) (lift-map meaning place (σ .queue) ∙ ap (map-place meaning) at)
@@ -179,9 +182,11 @@ module _ {S V : Type 0} (K : Setting S V) where
             ∙ ap (λ j. cond (ltb (p .0 .client) (K .clientCount) && ltb j (K .rules .n)) (M.handed K (shown σ h) (map meaning (p .1)) (meaning (p .0))) (shown σ h)) (meaning-server (p .0))
             ∙ ap (λ t. cond t (M.handed K (shown σ h) (map meaning (p .1)) (meaning (p .0))) (shown σ h)) e
 
+        -- the other messages fit
         rest-fits : length (p .1) ≤ K .capacity
         rest-fits = let a = length-lift place (σ .queue) p at in omega arith
 
+        -- the message is handed to its client or its server
         follows-handed : (kind : Kind) → kind-of (p .0 .kind) ≡ Some kind → P.named K (p .0) ≡ true → Followed σ h (Deliver place) (P.handed K σ (p .1) (p .0) kind)
         follows-handed kind q n =
             by-cond (Followed σ h (Deliver place)) (from-server kind) _ _
@@ -198,10 +203,12 @@ module _ {S V : Type 0} (K : Setting S V) where
               records = records-none _ refl (λ c. refl);
             }))
 
+        -- the message has a kind, or none
         follows-taken : (o : Option Kind) → kind-of (p .0 .kind) ≡ o → Followed σ h (Deliver place) (P.taken K σ (p .1) (p .0) o)
         follows-taken None q = follows-refused (Deliver place) Memory
         follows-taken (Some kind) q = by-cond (Followed σ h (Deliver place)) (P.named K (p .0)) _ _ (follows-handed kind q) (λ n. follows-refused (Deliver place) Memory)
 
+      -- there is a message at the place, or none
       follows-delivered : (place : ℕ) (o : Option (Message S V × List (Message S V))) → lift place (σ .queue) ≡ o → Followed σ h (Deliver place) (P.delivered K σ o)
       follows-delivered place None at = follows-refused (Deliver place) NoMessage
       follows-delivered place (Some p) at = follows-taken place p at (kind-of (p .0 .kind)) refl

@@ -1,3 +1,5 @@
+pub mod Machine
+pub mod Laws
 pub mod Base
 pub mod Extra
 pub mod Safe
@@ -15,3 +17,4 @@ pub mod LiveRun
 pub mod Meaning
 pub mod Delivers
 pub mod Follows
+pub mod ProtocolLaw

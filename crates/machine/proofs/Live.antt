@@ -13,7 +13,7 @@ use Rattle.server.specs.Serving.{ServerState}
 use Rattle.protocol.specs.Settings.{Setting, Lawful}
 use Rattle.protocol.specs.Clients.{Phase, idle, asking, storing, reading, Client}
 use Rattle.protocol.specs.Runs.{In}
-use Rattle.machine.specs.Machine.{Msg, query, ts, store, ack, value, stop, Event, chose, State, server-of}
+use Rattle.machine.proofs.Machine.{Msg, query, ts, store, ack, value, stop, Event, chose, State, server-of}
 use Rattle.machine.proofs.Base.{t≢f, either, eq-of, eqb-same, All, Le, le-trans, le-eq}
 use Rattle.machine.proofs.Safe.{Genuine, Past, Safe, Later, genuine-later}
 

@@ -14,7 +14,7 @@ use Rattle.server.specs.Serving.{ServerState}
 use Rattle.protocol.specs.Settings.{Setting, Lawful}
 use Rattle.protocol.specs.Clients.{Phase, idle, asking, storing, reading, Client, to-all}
 use Rattle.protocol.specs.Runs.{In, here, there}
-use Rattle.machine.specs.Machine.{Msg, query, ts, store, ack, value, stop, Event, chose, finished, spent, State, client-of, set-client, dropped, chosen, on-ts, on-ack}
+use Rattle.machine.proofs.Machine.{Msg, query, ts, store, ack, value, stop, Event, chose, finished, spent, State, client-of, set-client, dropped, chosen, on-ts, on-ack}
 use Rattle.machine.proofs.Base.{zero≢one, t≢f, by-cond, eq-of, eqb-same, updated-elim, updated-at, All, all-++, all-to, in-cons, in-left, in-right, in-to, Le, level-refl}
 use Rattle.machine.proofs.Safe.{Good, Safe, Later}
 use Rattle.machine.proofs.Past.{old-chose, old-prior}

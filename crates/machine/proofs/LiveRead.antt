@@ -13,7 +13,7 @@ use Rattle.reading.specs.Readings.{Reading, updated, level, among, newer, raise
 use Rattle.protocol.specs.Settings.{Setting, Lawful}
 use Rattle.protocol.specs.Clients.{Phase, idle, asking, storing, reading, Client, to-all}
 use Rattle.protocol.specs.Runs.{In}
-use Rattle.machine.specs.Machine.{Msg, value, stop, Event, chose, finished, State, client-of, set-client, dropped, decided, on-value}
+use Rattle.machine.proofs.Machine.{Msg, value, stop, Event, chose, finished, State, client-of, set-client, dropped, decided, on-value}
 use Rattle.machine.proofs.Base.{zero≢one, t≢f, by-cond, eq-of, eqb-same, and-l, and-r, and-both, updated-elim, updated-at, All, all-to, in-left, Le, le-trans, lt-le, le-eq, level-eq, level-refl}
 use Rattle.machine.proofs.Safe.{Genuine, Seen, Good, ReadOk, GoodPhase, Safe}
 use Rattle.machine.proofs.Past.{old-chose, old-prior}

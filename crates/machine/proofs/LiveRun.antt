@@ -15,8 +15,8 @@ use Rattle.protocol.specs.Settings.{Setting, Lawful}
 use Rattle.protocol.specs.Clients.{Phase, idle, asking, storing, reading, Client, to-all}
 use Rattle.protocol.specs.Protocol.{lift}
 use Rattle.protocol.specs.Runs.{In}
-use Rattle.machine.specs.Machine.{Msg, query, ts, store, ack, value, stop, Event, begun, State, Call, write, deliver, turn, forge, server-of, client-of, set-server, at-server, set-client, dropped, turned, forged, server-query, server-read, server-stop, server-store, handed, taken, free, may-forge, made, step, opened, run}
-use Rattle.machine.specs.Law.{Laws}
+use Rattle.machine.proofs.Machine.{Msg, query, ts, store, ack, value, stop, Event, begun, State, Call, write, deliver, turn, forge, server-of, client-of, set-server, at-server, set-client, dropped, turned, forged, server-query, server-read, server-stop, server-store, handed, taken, free, may-forge, made, step, opened, run}
+use Rattle.machine.proofs.Laws.{Laws}
 use Rattle.machine.proofs.Base.{t≢f, by-cond, eq-of, eqb-same, lt-of, and-l, not-true, updated-elim, All, all-++, all-to, all-lift, in-lift, in-left, in-right, in-to}
 use Rattle.machine.proofs.Safe.{Seen, Good, Safe, Later}
 use Rattle.machine.proofs.Past.{old-chose, new-prior}

@@ -12,7 +12,7 @@ use Rattle.server.specs.Serving.{ServerState}
 use Rattle.protocol.specs.Settings.{Setting, Lawful}
 use Rattle.protocol.specs.Clients.{reading, Client}
 use Rattle.protocol.specs.Runs.{In, here, there}
-use Rattle.machine.specs.Machine.{Msg, query, ts, store, ack, value, stop, State, server-of, set-server, server-read, server-stop, passed-to, passed-on, server-store}
+use Rattle.machine.proofs.Machine.{Msg, query, ts, store, ack, value, stop, State, server-of, set-server, server-read, server-stop, passed-to, passed-on, server-store}
 use Rattle.machine.proofs.Base.{zero≢one, t≢f, by-cond, eq-of, eqb-same, lt-of, ge-of, le-of, updated-at, All, all-++, in-left, in-right, Le}
 use Rattle.machine.proofs.Safe.{Good, Safe, Moves, stays, server-later}
 use Rattle.machine.proofs.SafeServer.{stored-moves, stored-reach, after-read, after-read-moves, after-stop, after-stop-moves}

@@ -1,12 +1,12 @@
 -- What a message of the protocol means to the machine, and how the machine shows a state of the protocol.
 use mathlib.Core.Path.{_≡_, refl, sym, _∙_, ap, fun-ext}
-use mathlib.Core.Bool.{Bool, true, false, cond, _&&_}
-use mathlib.Core.List.{List, [], _∷_, _++_, map, append-nil}
-use mathlib.Core.Logic.{_⊎_, inl, inr}
+use mathlib.Core.Bool.{Bool, true, false, cond}
+use mathlib.Core.List.{List, [], _∷_, _++_, map}
+use mathlib.Core.Logic.{inl, inr}
 use Prim.Native.Nat.{ℕ, zero, suc, _-_, _+_, _≤_}
 use native.Mathlib.Omega.{arith}
-use lib.Dec.{leb, ltb, eqb, le→leb}
-use lib.ListN.{length, length-append, length-map}
+use lib.Dec.{leb, eqb, le→leb}
+use lib.ListN.{length, length-append}
 use Rattle.std.specs.declared.option.Option.{Option}
 use Rattle.std.specs.declared.option.Option.the-variants.{Some, None}
 use Rattle.network.specs.Kinds.{kind-of}
@@ -18,7 +18,7 @@ use Rattle.protocol.specs.Settings.{Setting}
 use Rattle.protocol.specs.Clients.{to-all}
 use Rattle.protocol.specs.Protocol.{State, lifted, lift, overfull}
 use Rattle.protocol.specs.Runs.{In, here, there}
-use Rattle.machine.specs.Machine as M
+use Rattle.machine.proofs.Machine as M
 use Rattle.machine.proofs.Base.{by-cond, eq-of, ge-of, true-of, in-cons}
 
 -- two conditions that are made on one test
@@ -30,18 +30,22 @@ by-both P false x y x′ y′ f g = g refl
 pub updated-same : {A : Type 0} (f : ℕ → A) (i : ℕ) → updated f i (f i) ≡ f
 updated-same f i = fun-ext (λ j. by-cond (λ x. x ≡ f j) (eqb i j) (f i) (f j) (λ e. ap f (eq-of i j e)) (λ e. refl))
 
+-- a map of two parts
 pub map-++ : {A B : Type 0} (f : A → B) (xs ys : List A) → map f (xs ++ ys) ≡ map f xs ++ map f ys
 map-++ f [] ys = refl
 map-++ f (x ∷ xs) ys = ap (λ zs. f x ∷ zs) (map-++ f xs ys)
 
+-- a map of what goes to all
 pub map-to-all : {A B : Type 0} (f : A → B) (n : ℕ) (g : ℕ → A) → map f (to-all n g) ≡ to-all n (λ b. f (g b))
 map-to-all f zero g = refl
 map-to-all f (suc n) g = map-++ f (to-all n g) (g n ∷ []) ∙ ap (λ zs. zs ++ (f (g n) ∷ [])) (map-to-all f n g)
 
+-- how many messages go to all
 pub length-to-all : {A : Type 0} (n : ℕ) (g : ℕ → A) → length (to-all n g) ≡ n
 length-to-all zero g = refl
 length-to-all (suc n) g = let a = length-append (to-all n g) (g n ∷ []) in let b = length-to-all n g in omega arith
 
+-- an element of a map comes from one of the list
 pub in-map : {A B : Type 0} (f : A → B) (y : B) (xs : List A) → In y (map f xs) → (x : A) × (y ≡ f x) × In x xs
 in-map f y [] i = elim i [ ]
 in-map f y (x ∷ xs) i = elim (in-cons i) [ inl e ↦ (x, e, here) | inr j ↦ (let r = in-map f y xs j in (r .0, r .1, there (r .2))) ]
@@ -51,10 +55,12 @@ abbrev pub map-place : {A B : Type 0} → (A → B) → Option (A × List A) →
 map-place f None = None
 map-place f (Some p) = Some (f (p .0), map f (p .1))
 
+-- a map, and an element before the rest
 pub map-lifted : {A B : Type 0} (f : A → B) (x : A) (o : Option (A × List A)) → lifted (f x) (map-place f o) ≡ map-place f (lifted x o)
 map-lifted f x None = refl
 map-lifted f x (Some p) = refl
 
+-- the element at a place of a map
 pub lift-map : {A B : Type 0} (f : A → B) (k : ℕ) (xs : List A) → lift k (map f xs) ≡ map-place f (lift k xs)
 lift-map f k [] = refl
 lift-map f zero (x ∷ xs) = refl
@@ -96,9 +102,11 @@ module _ {S V : Type 0} where
   meant-client (Some Value) m = refl
   meant-client (Some Stop) m = refl
 
+  -- a meaning names the server of the message
   pub meaning-server : (m : Message S V) → M.server-of (meaning m) ≡ m .server
   meaning-server m = meant-server (kind-of (m .kind)) m
 
+  -- a meaning names the client of the message
   pub meaning-client : (m : Message S V) → M.client-of (meaning m) ≡ m .client
   meaning-client m = meant-client (kind-of (m .kind)) m
 

@@ -10,7 +10,7 @@ use Rattle.std.specs.declared.option.Option.the-variants.{Some, None}
 use Rattle.protocol.specs.Settings.{Setting, Lawful}
 use Rattle.protocol.specs.Clients.{Client}
 use Rattle.protocol.specs.Runs.{is-asking, In, here, there, Before, then, since}
-use Rattle.machine.specs.Machine.{Event, begun, chose, finished, spent}
+use Rattle.machine.proofs.Machine.{Event, begun, chose, finished, spent}
 use Rattle.machine.proofs.Base.{t≢f, Le, le-trans, lt-le-lt-r}
 use Rattle.machine.proofs.Safe.{Finish, Prior, Genuine, Choice, Past}
 

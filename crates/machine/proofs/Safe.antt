@@ -14,7 +14,7 @@ use Rattle.server.specs.Serving.{ServerState}
 use Rattle.protocol.specs.Settings.{Setting, Lawful}
 use Rattle.protocol.specs.Clients.{Phase, idle, asking, storing, reading, Client}
 use Rattle.protocol.specs.Runs.{is-asking, In, there, Before, then, since}
-use Rattle.machine.specs.Machine.{Msg, query, ts, store, ack, value, stop, Event, begun, chose, finished, State, set-server}
+use Rattle.machine.proofs.Machine.{Msg, query, ts, store, ack, value, stop, Event, begun, chose, finished, State, set-server}
 use Rattle.machine.proofs.Base.{updated-elim, All, all-map, all-++, Le, le-trans}
 
 module _ {S V : Type 0} where

@@ -14,7 +14,7 @@ use Rattle.reading.specs.Readings.{updated, level}
 use Rattle.protocol.specs.Settings.{Setting, Lawful}
 use Rattle.protocol.specs.Clients.{Phase, idle, asking, storing, reading, Client, to-all}
 use Rattle.protocol.specs.Runs.{is-asking, In, here}
-use Rattle.machine.specs.Machine.{Msg, store, Event, chose, finished, spent, State, set-client, dropped, chosen, on-ts, on-ack}
+use Rattle.machine.proofs.Machine.{Msg, store, Event, chose, finished, spent, State, set-client, dropped, chosen, on-ts, on-ack}
 use Rattle.machine.proofs.Base.{t≢f, Some≢None, by-cond, eq-of, updated-elim, updated-at, All, all-map, all-++, all-to, in-right, Le, le-trans, lt-le, lt-le-lt-r, le-eq, le-higher-l, le-higher-r, successor-candidate, level-eq}
 use Rattle.machine.proofs.Safe.{Finish, Prior, prior-finish, Genuine, Told, Good, AskOk, StoreOk, GoodPhase, Past, Safe, Later, genuine-later, good-later, phase-later}
 use Rattle.machine.proofs.Past.{old-prior, old-finish, new-finish, Grows, past-none, past-spent, past-chose, past-finished}

@@ -10,7 +10,7 @@ use Rattle.std.specs.declared.option.Option.the-variants.{Some, None}
 use Rattle.reading.specs.Readings.{Reading, level, among, newer, raised, noted, says, backers, value-of, better, leaders, rewatched, heard, backed, decide}
 use Rattle.protocol.specs.Settings.{Setting, Lawful}
 use Rattle.protocol.specs.Clients.{Phase, idle, asking, storing, reading}
-use Rattle.machine.specs.Machine.{Msg, stop, State, decided, on-value}
+use Rattle.machine.proofs.Machine.{Msg, stop, State, decided, on-value}
 use Rattle.machine.proofs.Base.{t≢f, Some≢None, by-cond, eq-of, and-l, and-r, All, all-to, level-eq}
 use Rattle.machine.proofs.Safe.{prior-finish, Genuine, Seen, Good, ReadOk, GoodPhase, Safe}
 use Rattle.machine.proofs.SafeClient.{safe-drop, number-at, safe-plain, safe-finished}

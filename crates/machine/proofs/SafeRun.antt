@@ -15,8 +15,8 @@ use Rattle.protocol.specs.Settings.{Setting, Lawful}
 use Rattle.protocol.specs.Clients.{Phase, idle, asking, reading, Client}
 use Rattle.protocol.specs.Protocol.{lift}
 use Rattle.protocol.specs.Runs.{In, here}
-use Rattle.machine.specs.Machine.{Msg, query, ts, store, ack, value, stop, Event, begun, State, Call, write, deliver, turn, forge, server-of, set-server, at-server, set-client, dropped, turned, forged, server-query, server-read, server-stop, server-store, handed, taken, free, may-forge, made, step, opened, run}
-use Rattle.machine.specs.Law.{Laws}
+use Rattle.machine.proofs.Machine.{Msg, query, ts, store, ack, value, stop, Event, begun, State, Call, write, deliver, turn, forge, server-of, set-server, at-server, set-client, dropped, turned, forged, server-query, server-read, server-stop, server-store, handed, taken, free, may-forge, made, step, opened, run}
+use Rattle.machine.proofs.Laws.{Laws}
 use Rattle.machine.proofs.Base.{t≢f, Some≢None, by-cond, eq-of, and-r, updated-elim, All, all-map, all-++, all-to, all-lift}
 use Rattle.machine.proofs.Safe.{Seen, Told, Good, GoodPhase, Safe, Later, good-later, phase-later}
 use Rattle.machine.proofs.SafeServer.{safe-quiet, safe-query, safe-store, safe-read, safe-stop}

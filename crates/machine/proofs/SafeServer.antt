@@ -12,7 +12,7 @@ use Rattle.server.specs.declared.state.Listener.{Listener}
 use Rattle.server.specs.Serving.{ServerState}
 use Rattle.protocol.specs.Settings.{Setting, Lawful}
 use Rattle.protocol.specs.Runs.{In}
-use Rattle.machine.specs.Machine.{Msg, ts, ack, value, chose, State, set-server, server-read, server-stop, passed-to, passed-on, server-store}
+use Rattle.machine.proofs.Machine.{Msg, ts, ack, value, chose, State, set-server, server-read, server-stop, passed-to, passed-on, server-store}
 use Rattle.machine.proofs.Base.{t≢f, by-cond, lt-of, le-of, and-l, and-r, not-true, updated-elim, updated-at, All, all-++, Le, le-trans, lt-le, le-eq}
 use Rattle.machine.proofs.Safe.{prior-finish, Genuine, SeenAt, Good, GoodListener, GoodServer, Safe, Moves, stays, safe-server}
 

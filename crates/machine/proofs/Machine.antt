@@ -7,7 +7,7 @@ use lib.ListN.{length}
 use Rattle.std.specs.declared.option.Option.{Option}
 use Rattle.std.specs.declared.option.Option.the-variants.{Some, None}
 use Rattle.timestamps.specs.Laws.{higher}
-use Rattle.reading.specs.Readings.{Rules, Reading, unread, updated, level, backers, heard, decide}
+use Rattle.reading.specs.Readings.{Reading, unread, updated, level, backers, heard, decide}
 use Rattle.server.specs.declared.state.Listener.{Listener}
 use Rattle.server.specs.Serving.{ServerState}
 use Rattle.protocol.specs.Settings.{Setting}

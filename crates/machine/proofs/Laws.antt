@@ -1,15 +1,14 @@
--- What holds after every run.
+-- What holds of the machine after every run.
 use mathlib.Core.Path.{_≡_}
 use mathlib.Core.Bool.{Bool, true, false}
-use mathlib.Core.List.{List, [], _∷_}
 use mathlib.Core.Logic.{_⊎_}
 use Prim.Native.Nat.{ℕ, _<_}
 use Rattle.std.specs.declared.option.Option.{Option}
 use Rattle.std.specs.declared.option.Option.the-variants.{Some, None}
-use Rattle.protocol.specs.Settings.{Setting, Lawful}
+use Rattle.protocol.specs.Settings.{Setting}
 use Rattle.protocol.specs.Clients.{idle}
 use Rattle.protocol.specs.Runs.{In, Before}
-use Rattle.machine.specs.Machine.{Msg, Event, begun, chose, finished, State, Call, server-of, run}
+use Rattle.machine.proofs.Machine.{Msg, begun, chose, finished, State, server-of}
 
 -- what holds of a register with this history
 pub record Laws {S V : Type 0} (K : Setting S V) (σ : State S V) : Type 0 where
@@ -34,7 +33,3 @@ pub record Laws {S V : Type 0} (K : Setting S V) (σ : State S V) : Type 0 where
       ((s ≡ K .lowest) × (v ≡ K .initial)) ⊎ ((c′ : ℕ) × (k′ : ℕ) × Before (chose c′ k′ s v) (finished c k s (Some v) q) (σ .history))
   -- if no message is under way to or from a correct server, no client has an operation open
   pub quiet-is-done : ((m : Msg S V) → In m (σ .queue) → σ .faulty (server-of m) ≡ true) → (c : ℕ) → c < K .clientCount → σ .clients c .phase ≡ idle
-
--- the laws hold after every run, over every setting whose kinds have their laws
-abbrev pub Law : Type 0 → Type 0 → Type 0
-Law S V = (K : Setting S V) → Lawful K → (calls : List (Call S V)) → Laws K (run K calls)
