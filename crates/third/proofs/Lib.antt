@@ -1,0 +1,2 @@
+mod UnanimousLaws
+mod VersionLaws

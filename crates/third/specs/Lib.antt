@@ -1,0 +1,3 @@
+pub mod Unanimity
+pub mod VersionOrder
+pub mod Lights
