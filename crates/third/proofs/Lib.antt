@@ -1,2 +1,3 @@
 mod UnanimousLaws
 mod VersionLaws
+mod PassedOn
