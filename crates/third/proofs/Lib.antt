@@ -1,0 +1,3 @@
+mod UnanimousLaws
+mod VersionLaws
+mod PassedOn

@@ -1,0 +1,4 @@
+pub mod Unanimity
+pub mod VersionOrder
+pub mod Lights
+pub mod Passing

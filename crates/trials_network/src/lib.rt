@@ -1,0 +1,3 @@
+// Tests of messages and of the network that holds them.
+#[cfg(test)]
+mod tests;
