@@ -39,6 +39,7 @@ pub record Records {S V : Type 0} (s : Step S V) (es : List (M.Event S V)) : Typ
   pub ended-write : (c k : ℕ) (t : S) → EndedWrite c k t s → (q : ℕ → Bool) × (es ≡ (M.finished c k t None q ∷ []))
   pub ended-read : (c k : ℕ) (t : S) (v : V) → EndedRead c k t v s → (q : ℕ → Bool) × (es ≡ (M.finished c k t (Some v) q ∷ []))
   pub from-begun : (c k : ℕ) (v : V) → In (M.begun c k (Some v)) es → BeganWrite c k v s
+  pub from-begun-read : (c k : ℕ) → In (M.begun c k None) es → BeganRead c k s
   pub from-chose : (c k : ℕ) (t : S) (v : V) → In (M.chose c k t v) es → Chose c k t v s
 
 module _ {S V : Type 0} where
@@ -51,6 +52,7 @@ module _ {S V : Type 0} where
     ended-write = λ c k t b. absurd (t≢f p (ap plain b));
     ended-read = λ c k t v b. absurd (t≢f p (ap plain b));
     from-begun = λ c k v i. elim i [ ];
+    from-begun-read = λ c k i. elim i [ ];
     from-chose = λ c k t v i. elim i [ ];
   }
 
@@ -63,6 +65,7 @@ module _ {S V : Type 0} where
     ended-write = λ d j t b. absurd (zero≢one cc);
     ended-read = λ d j t u b. absurd (zero≢one cc);
     from-begun = λ d j u i. let e′ = in-one i in (cc, cc);
+    from-begun-read = λ d j i. let e′ = in-one i in absurd (zero≢one cc);
     from-chose = λ d j t u i. let e′ = in-one i in absurd (zero≢one cc);
   }
 
@@ -75,6 +78,7 @@ module _ {S V : Type 0} where
     ended-write = λ d j t b. absurd (zero≢one cc);
     ended-read = λ d j t u b. absurd (zero≢one cc);
     from-begun = λ d j u i. let e′ = in-one i in absurd (zero≢one cc);
+    from-begun-read = λ d j i. let e′ = in-one i in (cc, cc);
     from-chose = λ d j t u i. let e′ = in-one i in absurd (zero≢one cc);
   }
 
@@ -88,6 +92,7 @@ module _ {S V : Type 0} where
     ended-write = t .ended-write;
     ended-read = t .ended-read;
     from-begun = λ d k v i. absurd (t .no-begun d k (Some v) i);
+    from-begun-read = λ d k i. absurd (t .no-begun d k None i);
     from-chose = λ d k s v i. chose-from d k s v (t .from-chose d k s v i);
   }
     where

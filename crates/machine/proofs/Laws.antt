@@ -28,6 +28,9 @@ pub record Laws {S V : Type 0} (K : Setting S V) (σ : State S V) : Type 0 where
       In (finished c k s None q) (σ .history) → (v : V) × Before (chose c k s v) (finished c k s None q) (σ .history)
   -- a write that chose a timestamp began before, with its value
   pub chosen-was-begun : (c k : ℕ) (s : S) (v : V) → In (chose c k s v) (σ .history) → Before (begun c k (Some v)) (chose c k s v) (σ .history)
+  -- a read that finished began before
+  pub finished-read-began : (c k : ℕ) (s : S) (v : V) (q : ℕ → Bool) →
+      In (finished c k s (Some v) q) (σ .history) → Before (begun c k None) (finished c k s (Some v) q) (σ .history)
   -- a read that finished gives the initial pair, or one that a write chose before
   pub read-genuine : (c k : ℕ) (s : S) (v : V) (q : ℕ → Bool) → In (finished c k s (Some v) q) (σ .history) →
       ((s ≡ K .lowest) × (v ≡ K .initial)) ⊎ ((c′ : ℕ) × (k′ : ℕ) × Before (chose c′ k′ s v) (finished c k s (Some v) q) (σ .history))

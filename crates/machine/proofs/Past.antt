@@ -126,6 +126,7 @@ module _ {S V : Type 0} (K : Setting S V) where
         enough = p .enough;
         writes = p .writes;
         reads = p .reads;
+        read-began = p .read-began;
         source = p .source;
       }
 
@@ -147,6 +148,7 @@ module _ {S V : Type 0} (K : Setting S V) where
         enough = λ s q f. p .enough s q (old-finish e tt f);
         writes = λ u j s₁ s v q f i. p .writes u j s₁ s v q (old-prior e tt f) (old-chose e tt i);
         reads = λ u j s₁ s v q₁ q f i. p .reads u j s₁ s v q₁ q (old-prior e tt f) (old-finished e tt i);
+        read-began = λ u j s v q i. since (p .read-began u j s v q (old-finished e tt i));
         source = λ u j s v q i. since-source e u j s v q (old-finished e tt i);
       }
         where
@@ -170,6 +172,7 @@ module _ {S V : Type 0} (K : Setting S V) where
           | inl x ↦ absurd (let y = x .1 in let n : j ≤ cs c .number = subst (λ u. j ≤ cs u .number) (x .0) (p .number-finished u j s (Some v) q (old-finished e tt i)) in omega arith)
           | inr f ↦ p .reads u j s₁ s v q₁ q f (old-finished e tt i)
         ];
+        read-began = λ u j s v q i. since (p .read-began u j s v q (old-finished e tt i));
         source = λ u j s v q i. since-source e u j s v q (old-finished e tt i);
       }
         where
@@ -243,6 +246,7 @@ module _ {S V : Type 0} (K : Setting S V) where
           | inr i ↦ p .writes u j s₁ t x q (old-prior e tt f) i
         ];
         reads = λ u j s₁ s v q₁ q f i. p .reads u j s₁ s v q₁ q (old-prior e tt f) (old-finished e tt i);
+        read-began = λ u j s v q i. since (p .read-began u j s v q (old-finished e tt i));
         source = λ u j s v q i. since-source e u j s v q (old-finished e tt i);
       }
         where
@@ -256,7 +260,7 @@ module _ {S V : Type 0} (K : Setting S V) where
           ]
 
       pub past-finished : (c k : ℕ) (s : S) (o : Option V) (q : ℕ → Bool) → k ≤ cs c .number → K .rules .quorum q ≡ true →
-          ((v : V) → o ≡ Some v → Genuine K h s v × ((s₁ : S) (q₁ : ℕ → Bool) → Prior h c k s₁ q₁ → Le K s₁ s)) → (o ≡ None → (v : V) × In (chose c k s v) h) → Past K (finished c k s o q ∷ h) cs′
+          ((v : V) → o ≡ Some v → Genuine K h s v × ((s₁ : S) (q₁ : ℕ → Bool) → Prior h c k s₁ q₁ → Le K s₁ s) × In (begun c k None) h) → (o ≡ None → (v : V) × In (chose c k s v) h) → Past K (finished c k s o q ∷ h) cs′
       past-finished c k s o q n enough rd wr = record {
         number-begun = λ u j o i. past-none .number-begun u j o (old-begun e tt i);
         number-finished = λ u j t x y i. elim (new-finished i) [
@@ -276,6 +280,10 @@ module _ {S V : Type 0} (K : Setting S V) where
           | inl a ↦ subst (λ t. Le K s₁ t) (sym (a .2)) (rd v (sym (a .3)) .1 s₁ q₁ (subst (λ u. Prior h u k s₁ q₁) (a .0) (subst (λ j. Prior h u j s₁ q₁) (a .1) (old-prior e tt f))))
           | inr i ↦ p .reads u j s₁ t v q₁ y (old-prior e tt f) i
         ];
+        read-began = λ u j t v y i. elim (new-finished i) [
+          | inl a ↦ began-new u j t v y a
+          | inr i ↦ since (p .read-began u j t v y i)
+        ];
         source = λ u j t v y i. elim (new-finished i) [
           | inl a ↦ source-new u j t v y a
           | inr i ↦ since-source e u j t v y i
@@ -294,6 +302,16 @@ module _ {S V : Type 0} (K : Setting S V) where
               same = cc
 
               same′ : chose u j t (wr (sym (a .3)) .0) ≡ chose c k s (wr (sym (a .3)) .0)
+              same′ = cc
+
+          began-new : (u j : ℕ) (t : S) (v : V) (y : ℕ → Bool) → (u ≡ c) × (j ≡ k) × (t ≡ s) × (Some v ≡ o) × (y ≡ q) → Before (begun u j None) (finished u j t (Some v) y) (finished c k s o q ∷ h)
+          began-new u j t v y a =
+              subst (λ (e′ : Event S V). Before (begun u j None) e′ (finished c k s o q ∷ h)) (sym same) (then (subst (λ (e′ : Event S V). In e′ h) (sym same′) (rd v (sym (a .3)) .2)))
+            where
+              same : finished u j t (Some v) y ≡ finished c k s o q
+              same = cc
+
+              same′ : _≡_ {A = Event S V} (begun u j None) (begun c k None)
               same′ = cc
 
           source-new : (u j : ℕ) (t : S) (v : V) (y : ℕ → Bool) → (u ≡ c) × (j ≡ k) × (t ≡ s) × (Some v ≡ o) × (y ≡ q) →

@@ -11,7 +11,7 @@ use Rattle.std.specs.declared.option.Option.the-variants.{Some, None}
 use Rattle.calls.specs.declared.Call.{Call}
 use Rattle.protocol.specs.Settings.{Setting, Lawful}
 use Rattle.protocol.specs.Protocol.{step}
-use Rattle.protocol.specs.Runs.{In, here, there, Before, then, since, Step, run, steps, BeganWrite, Chose, EndedWrite, EndedRead, Ended, RunLaw}
+use Rattle.protocol.specs.Runs.{In, here, there, Before, then, since, Step, run, steps, BeganWrite, BeganRead, Chose, EndedWrite, EndedRead, Ended, RunLaw}
 use Rattle.machine.proofs.Machine as M
 use Rattle.machine.proofs.Laws.{Laws}
 use Rattle.machine.proofs.Base.{in-cons, in-left, in-right}
@@ -172,6 +172,23 @@ module _ {S V : Type 0} (K : Setting S V) where
     finished-write-chose : (calls : List (Call S V)) (c k : ℕ) (t : S) (s : Step S V) → In s (steps K calls) → EndedWrite c k t s → (v : V) × (s′ : Step S V) × Before s′ s (steps K calls) × Chose c k t v s′
     finished-write-chose calls c k t s i p = let r = before-each (EndedWrite c k t) (λ s. (v : V) × Chose c k t v s) (chose-older c k t) calls s i p in (r .2 .0, r .0, r .1, r .2 .1)
 
+    -- the read of an end that is the newest step began before
+    read-began-older : (c k : ℕ) (t : S) (v : V) (call : Call S V) (calls : List (Call S V)) → EndedRead c k t v (newest call calls) → (s′ : Step S V) × In s′ (steps K calls) × BeganRead c k s′
+    read-began-older c k t v call calls p = go (beside (call ∷ calls))
+      where
+        go : Beside (call ∷ calls) → (s′ : Step S V) × In s′ (steps K calls) × BeganRead c k s′
+        go b =
+            let u = b .told in
+            let w = u .3 .ended-read c k t v p in
+            let e : b .history ≡ (M.finished c k t (Some v) (w .0) ∷ u .1) = u .2 ∙ ap (λ es. es ++ u .1) (w .1) in
+            let i = laws (call ∷ calls) b .finished-read-began c k t v (w .0) (subst (In (M.finished c k t (Some v) (w .0))) (sym e) here) in
+            let j = before-older (subst (Before (M.begun c k None) (M.finished c k t (Some v) (w .0))) e i) in
+            told-from (steps K calls) (u .1) (u .4) (BeganRead c k) (M.begun c k None) (λ s es r. r .from-begun-read c k) j
+
+    -- a read that finished began before
+    finished-read-began : (calls : List (Call S V)) (c k : ℕ) (t : S) (v : V) (s : Step S V) → In s (steps K calls) → EndedRead c k t v s → (s′ : Step S V) × Before s′ s (steps K calls) × BeganRead c k s′
+    finished-read-began calls c k t v = before-each (EndedRead c k t v) (BeganRead c k) (read-began-older c k t v) calls
+
     -- a read gives the initial pair, or that of a write among these steps
     Source : S → V → List (Step S V) → Type 0
     Source t v ss = (c′ : ℕ) × (k′ : ℕ) × (s′ : Step S V) × (s″ : Step S V) × In s′ ss × Chose c′ k′ t v s′ × In s″ ss × BeganWrite c′ k′ v s″
@@ -233,6 +250,7 @@ module _ {S V : Type 0} (K : Setting S V) where
           chosen-once = λ c k t t′ v v′ s s′ i j p q. laws calls b .chosen-once c k t t′ v v′ (choice b c k t v s i p) (choice b c k t′ v′ s′ j q);
           chosen-began = chosen-began calls;
           finished-write-chose = finished-write-chose calls;
+          finished-read-began = finished-read-began calls;
           read-genuine = read-genuine calls;
           quiet-is-done = λ quiet c n. laws calls b .quiet-is-done (λ l i.
               let x = in-map meaning l (run K calls .queue) i in

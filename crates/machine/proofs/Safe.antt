@@ -86,8 +86,9 @@ module _ {S V : Type 0} (K : Setting S V) where
     pub reach : (s : S) (q : ℕ → Bool) → Finish h s q → q b ≡ true → Le K s (x .timestamp)
     pub listener : (c : ℕ) → GoodListener h (cs c .number) b c (x .listener c) (x .timestamp)
 
-  -- what a read keeps of correct servers was told by them
+  -- a read began, and what it keeps of correct servers was told by them
   pub record ReadOk (σ : State S V) (c k : ℕ) (r : Reading S V) : Type 0 where
+    pub origin : In (begun c k None) (σ .history)
     pub latest : (b : ℕ) → σ .faulty b ≡ false → r .entered b ≡ true → Seen σ c b k (r .latest b) (r .latestValue b)
     pub evidence : (b : ℕ) (s : S) (v : V) → σ .faulty b ≡ false → r .evidence b s ≡ Some v → Seen σ c b k s v
 
@@ -128,6 +129,7 @@ module _ {S V : Type 0} (K : Setting S V) where
     pub enough : (s : S) (q : ℕ → Bool) → Finish h s q → K .rules .quorum q ≡ true
     pub writes : (c k : ℕ) (s₁ s : S) (v : V) (q : ℕ → Bool) → Prior h c k s₁ q → In (chose c k s v) h → K .rules .above s s₁ ≡ true
     pub reads : (c k : ℕ) (s₁ s : S) (v : V) (q₁ q : ℕ → Bool) → Prior h c k s₁ q₁ → In (finished c k s (Some v) q) h → Le K s₁ s
+    pub read-began : (c k : ℕ) (s : S) (v : V) (q : ℕ → Bool) → In (finished c k s (Some v) q) h → Before (begun c k None) (finished c k s (Some v) q) h
     pub source : (c k : ℕ) (s : S) (v : V) (q : ℕ → Bool) → In (finished c k s (Some v) q) h →
         ((s ≡ K .lowest) × (v ≡ K .initial)) ⊎ ((c′ : ℕ) × (k′ : ℕ) × Before (chose c′ k′ s v) (finished c k s (Some v) q) h)
 
@@ -201,6 +203,7 @@ module _ {S V : Type 0} (K : Setting S V) where
         held = λ b f i. le-trans K L s _ _ (g .held b (E .correct b f) i) (E .held b);
       }
       phase-later c k (reading r) h g = record {
+        origin = E .history _ (g .origin);
         latest = λ b f i. seen-later (g .latest b (E .correct b f) i);
         evidence = λ b s v f i. seen-later (g .evidence b s v (E .correct b f) i);
       }

@@ -14,7 +14,7 @@ use Rattle.reading.specs.Readings.{updated, level}
 use Rattle.protocol.specs.Settings.{Setting, Lawful}
 use Rattle.protocol.specs.Clients.{Phase, idle, asking, storing, reading, Client, to-all}
 use Rattle.protocol.specs.Runs.{is-asking, In, here}
-use Rattle.machine.proofs.Machine.{Msg, store, Event, chose, finished, spent, State, set-client, dropped, chosen, on-ts, on-ack}
+use Rattle.machine.proofs.Machine.{Msg, store, Event, begun, chose, finished, spent, State, set-client, dropped, chosen, on-ts, on-ack}
 use Rattle.machine.proofs.Base.{t≢f, Some≢None, by-cond, eq-of, updated-elim, updated-at, All, all-map, all-++, all-to, in-right, Le, le-trans, lt-le, lt-le-lt-r, le-eq, le-higher-l, le-higher-r, successor-candidate, level-eq}
 use Rattle.machine.proofs.Safe.{Finish, Prior, prior-finish, Genuine, Told, Good, AskOk, StoreOk, GoodPhase, Past, Safe, Later, genuine-later, good-later, phase-later}
 use Rattle.machine.proofs.Past.{old-prior, old-finish, new-finish, Grows, past-none, past-spent, past-chose, past-finished}
@@ -116,7 +116,7 @@ module _ {S V : Type 0} (K : Setting S V) (L : Lawful K) (σ : State S V) (I : S
   -- an operation is finished on the servers q
   pub safe-finished : (c : ℕ) (s : S) (o : Option V) (q : ℕ → Bool) (ms : List (Msg S V)) → K .rules .quorum q ≡ true →
       ((b : ℕ) → σ .faulty b ≡ false → q b ≡ true → Le K s (σ .servers b .timestamp)) →
-      ((v : V) → o ≡ Some v → Genuine K (σ .history) s v × ((s₁ : S) (q₁ : ℕ → Bool) → Prior (σ .history) c (σ .clients c .number) s₁ q₁ → Le K s₁ s)) →
+      ((v : V) → o ≡ Some v → Genuine K (σ .history) s v × ((s₁ : S) (q₁ : ℕ → Bool) → Prior (σ .history) c (σ .clients c .number) s₁ q₁ → Le K s₁ s) × In (begun c (σ .clients c .number) None) (σ .history)) →
       (o ≡ None → (v : V) × In (chose c (σ .clients c .number) s v) (σ .history)) →
       All (Good K (set-client σ c rest (record { number = σ .clients c .number; last = σ .clients c .last; phase = idle }) ms (finished c (σ .clients c .number) s o q ∷ []))) ms →
       Safe K (set-client σ c rest (record { number = σ .clients c .number; last = σ .clients c .last; phase = idle }) ms (finished c (σ .clients c .number) s o q ∷ []))

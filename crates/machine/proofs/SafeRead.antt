@@ -54,7 +54,7 @@ module _ {S V : Type 0} (K : Setting S V) (L : Lawful K) where
 
   module _ (σ : State S V) (c k : ℕ) (r : Reading S V) (g : ReadOk K σ c k r) where
     rewatched-ok : ReadOk K σ c k (rewatched (K .rules) r)
-    rewatched-ok = record { latest = g .latest; evidence = λ d t u f e. go d t u f (among (K .rules .above) t (leaders (K .rules) r (K .rules .n))) e }
+    rewatched-ok = record { origin = g .origin; latest = g .latest; evidence = λ d t u f e. go d t u f (among (K .rules .above) t (leaders (K .rules) r (K .rules .n))) e }
       where
         inner : (d : ℕ) (t : S) (u : V) → σ .faulty d ≡ false → (x : Bool) → (r .entered d && level (K .rules .above) (r .latest d) t) ≡ x → cond x (Some (r .latestValue d)) (r .evidence d t) ≡ Some u → Seen K σ c d k t u
         inner d t u f true i e =
@@ -73,7 +73,7 @@ module _ {S V : Type 0} (K : Setting S V) (L : Lawful K) where
       seen-at d f e = subst (λ d. Seen K σ c d k s v) e (l (subst (λ d. σ .faulty d ≡ false) (sym e) f))
 
       pub raised-ok : ReadOk K σ c k (raised (K .rules .above) r b s v)
-      raised-ok = record { latest = λ d f i. go d f (eqb b d) refl i; evidence = g .evidence }
+      raised-ok = record { origin = g .origin; latest = λ d f i. go d f (eqb b d) refl i; evidence = g .evidence }
         where
           new : (x : Bool) → newer (K .rules .above) r b s ≡ x → σ .faulty b ≡ false → Seen K σ c b k (cond x s (r .latest b)) (cond x v (r .latestValue b))
           new true e f = l f
@@ -91,7 +91,7 @@ module _ {S V : Type 0} (K : Setting S V) (L : Lawful K) where
           go d f false e i = g .latest d f i
 
       noted-ok : ReadOk K σ c k (noted (K .rules .above) r b s v)
-      noted-ok = record { latest = g .latest; evidence = λ d t u f e. go d t u f (eqb b d && (level (K .rules .above) s t && among (K .rules .above) s (r .watched))) refl e }
+      noted-ok = record { origin = g .origin; latest = g .latest; evidence = λ d t u f e. go d t u f (eqb b d && (level (K .rules .above) s t && among (K .rules .above) s (r .watched))) refl e }
         where
           go : (d : ℕ) (t : S) (u : V) → σ .faulty d ≡ false → (x : Bool) → (eqb b d && (level (K .rules .above) s t && among (K .rules .above) s (r .watched))) ≡ x → cond x (Some v) (r .evidence d t) ≡ Some u → Seen K σ c d k t u
           go d t u f true i e =
@@ -124,6 +124,7 @@ module _ {S V : Type 0} (K : Setting S V) (L : Lawful K) where
               λ s₁ q₁ f.
                   let d′ = L .quorums .quorums-meet _ q₁ _ enough (I .past .enough s₁ q₁ (prior-finish f)) (I .fail-prone) in
                   g .evidence (d′ .0) (p .0) (p .1) (d′ .4) (says-some _ _ (d′ .2)) .floor s₁ q₁ f (d′ .3),
+              g .origin,
             ))
             (λ e. absurd (Some≢None (sym e) refl))
             (all-to (Good K _) (K .rules .n) (λ b. stop c b (σ .clients c .number)) (λ i. number-at K L σ I rest al c _ _ (le-refl _)))

@@ -137,7 +137,7 @@ module _ {S V : Type 0} (K : Setting S V) (L : Lawful K) where
         (all-to (Good K _) (K .rules .n) (λ b. query c b (suc (σ .clients c .number))) (λ i. number-at K L σ I (σ .queue) (I .messages) c _ _ (le-refl _))))
         (λ e. I)
     safe-made (Call.read c) = by-cond (Safe K) (free K σ c) _ σ
-        (λ e. safe-begin c (reading (unread (K .lowest) (K .initial))) None _ (record { latest = λ b f i. absurd (t≢f i refl); evidence = λ b s v f i. absurd (Some≢None i refl) })
+        (λ e. safe-begin c (reading (unread (K .lowest) (K .initial))) None _ (record { origin = here; latest = λ b f i. absurd (t≢f i refl); evidence = λ b s v f i. absurd (Some≢None i refl) })
         (all-to (Good K _) (K .rules .n) (λ b. Msg.read c b (suc (σ .clients c .number))) (λ i. number-at K L σ I (σ .queue) (I .messages) c _ _ (le-refl _))))
         (λ e. I)
     safe-made (deliver k) = safe-taken k
@@ -167,6 +167,7 @@ module _ {S V : Type 0} (K : Setting S V) (L : Lawful K) where
       enough = λ s q i. elim (i .at) [ ];
       writes = λ c k s₁ s v q i. elim (i .at) [ ];
       reads = λ c k s₁ s v q₁ q i. elim (i .at) [ ];
+      read-began = λ c k s v q i. elim i [ ];
       source = λ c k s v q i. elim i [ ];
     };
   }
@@ -183,6 +184,7 @@ module _ {S V : Type 0} (K : Setting S V) (L : Lawful K) where
     chosen-once = I .past .once;
     finished-write-chosen = I .past .wrote;
     chosen-was-begun = λ c k s v i. I .past .choice c k s v i .origin;
+    finished-read-began = I .past .read-began;
     read-genuine = I .past .source;
     quiet-is-done = q;
   }

@@ -99,6 +99,9 @@ pub record RunLaw {S V : Type 0} (K : Setting S V) (calls : List (Call S V)) : T
   -- a write that finished has the timestamp that it chose before
   pub finished-write-chose : (c k : ℕ) (t : S) (s : Step S V) → In s (steps K calls) → EndedWrite c k t s
       → (v : V) × (s′ : Step S V) × Before s′ s (steps K calls) × Chose c k t v s′
+  -- a read that finished began before
+  pub finished-read-began : (c k : ℕ) (t : S) (v : V) (s : Step S V) → In s (steps K calls) → EndedRead c k t v s
+      → (s′ : Step S V) × Before s′ s (steps K calls) × BeganRead c k s′
   -- a read that finished gives the initial pair, or the pair of one write that began and chose before
   pub read-genuine : (c k : ℕ) (t : S) (v : V) (s : Step S V) → In s (steps K calls) → EndedRead c k t v s
       → ((t ≡ K .lowest) × (v ≡ K .initial))
