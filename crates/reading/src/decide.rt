@@ -1,9 +1,9 @@
 // When the read is done: a quorum has the same evidence for a watched timestamp.
 ghost use mathlib.Core.Path.{_≡_};
-ghost use Prim.Native.Nat.{_<_};
+ghost use Prim.Native.Nat.{_<_, _≤_};
 ghost use Rattle.quorums.specs.Sets.{members};
 ghost use Rattle.reading.specs.Readings.{rules, says, backers, value-of, backed, decide};
-ghost use Rattle.reading.specs.Reports.{Room, cell, blank, view};
+ghost use Rattle.reading.specs.Reports.{cell, blank, view};
 ghost use Rattle.reading.specs.Deciding.{bettered};
 use crate::evidence::evidence_of;
 use crate::reports::Report;
@@ -21,7 +21,6 @@ fn is_backer<S: Timestamp, V: Value>(
     value: V,
     server: u8,
 ) -> bool
-    requires room { ⌜ Room n (now part) ⌝ }
     requires row { ⌜ server < n ⌝ }
     ensures { λ r. ⌜ r ≡ backers same (view above (blank lowest initialValue) n (now (part .entry))) timestamp value server ⌝ }
 {
@@ -38,7 +37,7 @@ fn backers<S: Timestamp, V: Value>(
     timestamp: S,
     value: V,
 ) -> ServerSet
-    requires room { ⌜ Room n (now part) ⌝ }
+    requires few { ⌜ n ≤ 16 ⌝ }
     ensures { λ r. ⌜ members r ≡ backers same (view above (blank lowest initialValue) n (now (part .entry))) timestamp value ⌝ }
 {
     let mut set = ServerSet::empty();
@@ -59,7 +58,7 @@ fn weighed<Q: QuorumSystem, S: Timestamp, V: Value>(
     server: u8,
     rest: Option<V>,
 ) -> Option<V>
-    requires room { ⌜ Room n (now part) ⌝ }
+    requires few { ⌜ n ≤ 16 ⌝ }
     requires row { ⌜ server < n ⌝ }
     ensures { λ r. ⌜ r ≡ value-of (λ v. quorum (now (system .entry)) (backers same (view above (blank lowest initialValue) n (now (part .entry))) timestamp v)) (view above (blank lowest initialValue) n (now (part .entry)) .evidence server timestamp) rest ⌝ }
 {
@@ -80,7 +79,7 @@ fn backed<Q: QuorumSystem, S: Timestamp, V: Value>(
     n: u8,
     timestamp: S,
 ) -> Option<V>
-    requires room { ⌜ Room n (now part) ⌝ }
+    requires few { ⌜ n ≤ 16 ⌝ }
     ensures { λ r. ⌜ r ≡ backed (rules n (quorum (now (system .entry))) (failProne (now (system .entry))) above same) (view above (blank lowest initialValue) n (now (part .entry))) timestamp n ⌝ }
 {
     let mut found = None;
@@ -98,7 +97,7 @@ fn bettered<Q: QuorumSystem, S: Timestamp, V: Value>(
     slot: u8,
     rest: Option<(S, V)>,
 ) -> Option<(S, V)>
-    requires room { ⌜ Room n (now part) ⌝ }
+    requires few { ⌜ n ≤ 16 ⌝ }
     requires column { ⌜ slot < n ⌝ }
     ensures { λ r. ⌜ r ≡ bettered (rules n (quorum (now (system .entry))) (failProne (now (system .entry))) above same) (view above (blank lowest initialValue) n (now (part .entry))) (cell (blank lowest initialValue) n (now (part .entry)) slot slot .present) (cell (blank lowest initialValue) n (now (part .entry)) slot slot .timestamp) rest ⌝ }
 {
@@ -126,7 +125,7 @@ pub(crate) fn decide<Q: QuorumSystem, S: Timestamp, V: Value>(
     part: &[Report<S, V>],
     n: u8,
 ) -> Option<(S, V)>
-    requires room { ⌜ Room n (now part) ⌝ }
+    requires few { ⌜ n ≤ 16 ⌝ }
     ensures { λ r. ⌜ r ≡ decide (rules n (quorum (now (system .entry))) (failProne (now (system .entry))) above same) (view above (blank lowest initialValue) n (now (part .entry))) (view above (blank lowest initialValue) n (now (part .entry)) .watched) ⌝ }
 {
     let mut best = None;
