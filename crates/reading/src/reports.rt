@@ -41,6 +41,20 @@ impl<S: Timestamp, V: Value> Report<S, V> {
     }
 }
 
+// How many entries the reports of n servers have.
+pub(crate) fn entries_for(n: u8) -> usize
+    ensures { λ r. ⌜ r ≡ n * (n + 1) ⌝ }
+{
+    n as usize * (n as usize + 1)
+}
+
+// Where an entry of a server's row stands.
+fn index_of(n: u8, server: u8, place: u8) -> usize
+    ensures { λ r. ⌜ r ≡ server * (n + 1) + place ⌝ }
+{
+    server as usize * (n as usize + 1) + place as usize
+}
+
 // An entry of a server's row; past the end of the memory nothing is reported.
 pub(crate) fn entry<S: Timestamp, V: Value>(
     part: &[Report<S, V>],
@@ -50,7 +64,7 @@ pub(crate) fn entry<S: Timestamp, V: Value>(
 ) -> Report<S, V>
     ensures { λ r. ⌜ r ≡ cell (blank lowest initialValue) n (now (part .entry)) server place ⌝ }
 {
-    let index = server as usize * (n as usize + 1) + place as usize;
+    let index = index_of(n, server, place);
     if index < part.len() {
         part[index]
     } else {
@@ -68,7 +82,7 @@ pub(crate) fn put<S: Timestamp, V: Value>(
 )
     ensures { λ _. ⌜ now (part .exit) ≡ set (now (part .entry)) (server * (n + 1) + place) report ⌝ }
 {
-    let index = server as usize * (n as usize + 1) + place as usize;
+    let index = index_of(n, server, place);
     if index < part.len() {
         part[index] = report;
     }

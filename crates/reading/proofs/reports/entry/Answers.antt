@@ -1,10 +1,19 @@
-use mathlib.Core.Path.{sym, _∙_}
-use Prim.Native.Nat.{_+_, _*_}
-use Rattle.std.proofs.shelf.Lists.{getD-past}
+use mathlib.Core.Path.{sym, ap, _∙_}
+use lib.ListN.{getD}
+use Rattle.std.proofs.shelf.Lists.{getD-read, getD-past}
 use Rattle.reading.specs.Reports.{blank}
 use Rattle.reading.proofs.reports.entry.Needs as need
 
+pub returns-then-index-part : need.returns-then-index-part
+returns-then-index-part g c =
+    let d = blank (g .S·Timestamp .lowest) (g .V·Value .initialValue) in
+    let p = c .args .part .now in
+    let i = c .index-of-index .result in
+    getD-read p i (c .index-part-index .result) (c .if-index-part .taken) (c .index-part-index .is) d ∙ ap (λ k. getD p k d) (c .index-of-index .ensures)
+
 pub returns-else-index-part : need.returns-else-index-part
 returns-else-index-part g c =
-    c .blank .ensures
-    ∙ sym (getD-past (c .args .part .now) (c .args .server * (c .args .n + 1) + c .args .place) (blank (g .S·Timestamp .lowest) (g .V·Value .initialValue)) (c .if-index-part .left))
+    let d = blank (g .S·Timestamp .lowest) (g .V·Value .initialValue) in
+    let p = c .args .part .now in
+    let i = c .index-of-index .result in
+    c .blank .ensures ∙ sym (getD-past p i d (c .if-index-part .left)) ∙ ap (λ k. getD p k d) (c .index-of-index .ensures)
