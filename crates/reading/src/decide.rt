@@ -1,8 +1,9 @@
 // When the read is done: a quorum has the same evidence for a watched timestamp.
 ghost use mathlib.Core.Path.{_≡_};
 ghost use Prim.Native.Nat.{_<_, _≤_};
+ghost use Rattle.std.specs.declared.option.Option.the-variants.{Some};
 ghost use Rattle.quorums.specs.Sets.{members};
-ghost use Rattle.reading.specs.Readings.{rules, says, backers, value-of, backed, decide};
+ghost use Rattle.reading.specs.Readings.{rules, backers, value-of, better, backed, decide};
 ghost use Rattle.reading.specs.Reports.{cell, blank, view};
 ghost use Rattle.reading.specs.Deciding.{bettered};
 use crate::evidence::evidence_of;
@@ -89,6 +90,20 @@ fn backed<Q: QuorumSystem, S: Timestamp, V: Value>(
     found
 }
 
+// Of a pair and the rest, the one with the higher timestamp.
+fn better<S: Timestamp, V: Value>(timestamp: S, value: V, rest: Option<(S, V)>) -> Option<(S, V)>
+    ensures { λ r. ⌜ r ≡ better above timestamp (Some value) rest ⌝ }
+{
+    match rest {
+        Some((other, known)) => if other.is_above(timestamp) {
+            Some((other, known))
+        } else {
+            Some((timestamp, value))
+        },
+        None => Some((timestamp, value)),
+    }
+}
+
 // The slot's timestamp with the value that a quorum has for it, or the rest: of two, the one with the higher timestamp.
 fn bettered<Q: QuorumSystem, S: Timestamp, V: Value>(
     system: &Q,
@@ -105,17 +120,9 @@ fn bettered<Q: QuorumSystem, S: Timestamp, V: Value>(
     if !leader.present {
         return rest;
     }
-    match (backed(system, part, n, leader.timestamp), rest) {
-        (Some(value), Some((timestamp, other))) => {
-            if timestamp.is_above(leader.timestamp) {
-                Some((timestamp, other))
-            } else {
-                Some((leader.timestamp, value))
-            }
-        }
-        (Some(value), None) => Some((leader.timestamp, value)),
-        (None, Some(pair)) => Some(pair),
-        (None, None) => None,
+    match backed(system, part, n, leader.timestamp) {
+        Some(value) => better(leader.timestamp, value, rest),
+        None => rest,
     }
 }
 

@@ -21,6 +21,12 @@ cast-server g t c =
     let few = c .pre .room .few in
     search needs
 
+pub cast-slot : need.cast-slot
+cast-slot g t c =
+    let column = place-of (c .args .n) (c .args .i) (c .if-i-width .taken) in
+    let few = c .pre .room .few in
+    search needs
+
 pub anew-report-requires : need.anew-report-requires
 anew-report-requires g t c κs = record {
   row = row-of (c .args .n) (c .args .i) (c .if-i-width .taken);
