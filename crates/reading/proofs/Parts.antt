@@ -1,21 +1,29 @@
 -- The reports of a client at the front of a longer memory, and memory in which all is blank.
 use mathlib.Core.Path.{_≡_, sym, ap, subst, _∙_}
 use mathlib.Core.Logic.{_⊎_, inl, inr}
-use mathlib.Core.Bool.{Bool}
+use mathlib.Core.Bool.{Bool, true}
 use mathlib.Core.List.{List, _++_}
-use Prim.Native.Nat.{ℕ, _+_, _*_, _≤_}
+use Prim.Native.Nat.{ℕ, _+_, _*_, _≤_, _<_}
 use native.Mathlib.Omega.{arith}
+use lib.Dec.{leb, ltb}
 use lib.ListN.{length, getD, take, drop, replicate}
 use Rattle.std.specs.declared.option.Option.{Option}
 use Rattle.std.proofs.shelf.Lists.{length-take-le, getD-take, getD-append-left, drop-append-le, drop-all, length-replicate, getD-replicate, getD-past}
-use Rattle.std.proofs.shelf.Tests.{cases-lt}
+use Rattle.std.proofs.shelf.Tests.{cases-lt, and-parts, leb-true, ltb-true}
 use Rattle.reading.specs.declared.reports.Report.{Report}
 use Rattle.reading.specs.Readings.{rules, unread, heard, decide}
 use Rattle.reading.specs.Reports.{Room, cell, blank, view}
-use Rattle.reading.specs.Hearing.{Heard}
+use Rattle.reading.specs.Hearing.{Heard, enough-memory}
 use Rattle.reading.proofs.Cells.{inside}
 use Rattle.reading.proofs.Views.{shown-same}
 use Rattle.reading.proofs.Enters.{unread-all}
+
+-- what the test of the memory says
+pub room-enough : {R : Type 0} (n : ℕ) (p : List R) (b : ℕ) → n ≤ 16 → enough-memory n p b ≡ true → Room n p
+room-enough n p b few e = record { few = few; long = leb-true (n * (n + 1)) (length p) (and-parts (leb (n * (n + 1)) (length p)) (ltb b n) e .0) }
+
+pub server-enough : {R : Type 0} (n : ℕ) (p : List R) (b : ℕ) → enough-memory n p b ≡ true → b < n
+server-enough n p b e = ltb-true b n (and-parts (leb (n * (n + 1)) (length p)) (ltb b n) e .1)
 
 -- a blank entry stands at each place, past the end too
 getD-blank : {R : Type 0} (m k : ℕ) (d : R) → getD (replicate m d) k d ≡ d

@@ -3,11 +3,23 @@ use Prim.Native.Nat.{_+_, _*_, _/_, _%_, _≤_}
 use native.Mathlib.Omega.{arith}
 use borrow.Author.Needs.{needs}
 use lib.ListN.{length}
+use Rattle.std.proofs.shelf.Bits.{mul-le}
 use Rattle.quorums.specs.Sets.{members}
 use Rattle.reading.specs.Reports.{Room, blank, cell, view, anew, put-at}
 use Rattle.reading.proofs.Cells.{cell-set}
 use Rattle.reading.proofs.Enters.{positive, row-of, place-of, renew-more, renew-none}
 use Rattle.reading.proofs.evidence.+renew.Needs as need
+
+pub mul-width : need.mul-width
+mul-width g t c =
+    let few = mul-le (c .args .n) (c .args .n) 16 16 (c .pre .room .few) (c .pre .room .few) in
+    search needs
+
+pub add-i : need.add-i
+add-i g t c =
+    let few = mul-le (c .args .n) (c .args .n) 16 16 (c .pre .room .few) (c .pre .room .few) in
+    let low = c .if-i-width .taken in
+    search needs
 
 pub div-server : need.div-server
 div-server g t c = positive (c .args .n) (c .args .i) (c .if-i-width .taken)
