@@ -1,9 +1,10 @@
 // When the read is done: a quorum has the same evidence for a watched timestamp.
 ghost use mathlib.Core.Path.{_≡_};
-ghost use Prim.Native.Nat.{_<_};
+ghost use Prim.Native.Nat.{_<_, _≤_};
+ghost use Rattle.std.specs.declared.option.Option.the-variants.{Some};
 ghost use Rattle.quorums.specs.Sets.{members};
-ghost use Rattle.reading.specs.Readings.{rules, says, backers, value-of, backed, decide};
-ghost use Rattle.reading.specs.Reports.{Room, cell, blank, view};
+ghost use Rattle.reading.specs.Readings.{rules, backers, value-of, better, backed, decide};
+ghost use Rattle.reading.specs.Reports.{cell, blank, view};
 ghost use Rattle.reading.specs.Deciding.{bettered};
 use crate::evidence::evidence_of;
 use crate::reports::Report;
@@ -21,7 +22,6 @@ fn is_backer<S: Timestamp, V: Value>(
     value: V,
     server: u8,
 ) -> bool
-    requires room { ⌜ Room n (now part) ⌝ }
     requires row { ⌜ server < n ⌝ }
     ensures { λ r. ⌜ r ≡ backers same (view above (blank lowest initialValue) n (now (part .entry))) timestamp value server ⌝ }
 {
@@ -38,7 +38,7 @@ fn backers<S: Timestamp, V: Value>(
     timestamp: S,
     value: V,
 ) -> ServerSet
-    requires room { ⌜ Room n (now part) ⌝ }
+    requires few { ⌜ n ≤ 16 ⌝ }
     ensures { λ r. ⌜ members r ≡ backers same (view above (blank lowest initialValue) n (now (part .entry))) timestamp value ⌝ }
 {
     let mut set = ServerSet::empty();
@@ -59,7 +59,7 @@ fn weighed<Q: QuorumSystem, S: Timestamp, V: Value>(
     server: u8,
     rest: Option<V>,
 ) -> Option<V>
-    requires room { ⌜ Room n (now part) ⌝ }
+    requires few { ⌜ n ≤ 16 ⌝ }
     requires row { ⌜ server < n ⌝ }
     ensures { λ r. ⌜ r ≡ value-of (λ v. quorum (now (system .entry)) (backers same (view above (blank lowest initialValue) n (now (part .entry))) timestamp v)) (view above (blank lowest initialValue) n (now (part .entry)) .evidence server timestamp) rest ⌝ }
 {
@@ -80,7 +80,7 @@ fn backed<Q: QuorumSystem, S: Timestamp, V: Value>(
     n: u8,
     timestamp: S,
 ) -> Option<V>
-    requires room { ⌜ Room n (now part) ⌝ }
+    requires few { ⌜ n ≤ 16 ⌝ }
     ensures { λ r. ⌜ r ≡ backed (rules n (quorum (now (system .entry))) (failProne (now (system .entry))) above same) (view above (blank lowest initialValue) n (now (part .entry))) timestamp n ⌝ }
 {
     let mut found = None;
@@ -88,6 +88,20 @@ fn backed<Q: QuorumSystem, S: Timestamp, V: Value>(
         found = weighed(system, part, n, timestamp, server, found);
     }
     found
+}
+
+// Of a pair and the rest, the one with the higher timestamp.
+fn better<S: Timestamp, V: Value>(timestamp: S, value: V, rest: Option<(S, V)>) -> Option<(S, V)>
+    ensures { λ r. ⌜ r ≡ better above timestamp (Some value) rest ⌝ }
+{
+    match rest {
+        Some((other, known)) => if other.is_above(timestamp) {
+            Some((other, known))
+        } else {
+            Some((timestamp, value))
+        },
+        None => Some((timestamp, value)),
+    }
 }
 
 // The slot's timestamp with the value that a quorum has for it, or the rest: of two, the one with the higher timestamp.
@@ -98,7 +112,7 @@ fn bettered<Q: QuorumSystem, S: Timestamp, V: Value>(
     slot: u8,
     rest: Option<(S, V)>,
 ) -> Option<(S, V)>
-    requires room { ⌜ Room n (now part) ⌝ }
+    requires few { ⌜ n ≤ 16 ⌝ }
     requires column { ⌜ slot < n ⌝ }
     ensures { λ r. ⌜ r ≡ bettered (rules n (quorum (now (system .entry))) (failProne (now (system .entry))) above same) (view above (blank lowest initialValue) n (now (part .entry))) (cell (blank lowest initialValue) n (now (part .entry)) slot slot .present) (cell (blank lowest initialValue) n (now (part .entry)) slot slot .timestamp) rest ⌝ }
 {
@@ -106,17 +120,9 @@ fn bettered<Q: QuorumSystem, S: Timestamp, V: Value>(
     if !leader.present {
         return rest;
     }
-    match (backed(system, part, n, leader.timestamp), rest) {
-        (Some(value), Some((timestamp, other))) => {
-            if timestamp.is_above(leader.timestamp) {
-                Some((timestamp, other))
-            } else {
-                Some((leader.timestamp, value))
-            }
-        }
-        (Some(value), None) => Some((leader.timestamp, value)),
-        (None, Some(pair)) => Some(pair),
-        (None, None) => None,
+    match backed(system, part, n, leader.timestamp) {
+        Some(value) => better(leader.timestamp, value, rest),
+        None => rest,
     }
 }
 
@@ -126,7 +132,7 @@ pub(crate) fn decide<Q: QuorumSystem, S: Timestamp, V: Value>(
     part: &[Report<S, V>],
     n: u8,
 ) -> Option<(S, V)>
-    requires room { ⌜ Room n (now part) ⌝ }
+    requires few { ⌜ n ≤ 16 ⌝ }
     ensures { λ r. ⌜ r ≡ decide (rules n (quorum (now (system .entry))) (failProne (now (system .entry))) above same) (view above (blank lowest initialValue) n (now (part .entry))) (view above (blank lowest initialValue) n (now (part .entry)) .watched) ⌝ }
 {
     let mut best = None;

@@ -16,8 +16,6 @@ use values::Value;
 
 // Whether the slot is watched for the timestamp.
 fn is_watched<S: Timestamp, V: Value>(part: &[Report<S, V>], n: u8, timestamp: S, slot: u8) -> bool
-    requires room { ⌜ Room n (now part) ⌝ }
-    requires column { ⌜ slot < n ⌝ }
     ensures { λ r. ⌜ r ≡ watches above (cell (blank lowest initialValue) n (now (part .entry))) timestamp slot ⌝ }
 {
     let leader = entry(part, n, slot, slot);
@@ -31,7 +29,6 @@ pub(crate) fn evidence_of<S: Timestamp, V: Value>(
     server: u8,
     timestamp: S,
 ) -> Option<V>
-    requires room { ⌜ Room n (now part) ⌝ }
     requires row { ⌜ server < n ⌝ }
     ensures { λ r. ⌜ r ≡ view above (blank lowest initialValue) n (now (part .entry)) .evidence server timestamp ⌝ }
 {
@@ -70,7 +67,6 @@ pub(crate) fn note<S: Timestamp, V: Value>(
 
 // The entry of what the server has for the latest timestamp of the slot's server: its latest value, or its evidence.
 fn fresh<S: Timestamp, V: Value>(part: &[Report<S, V>], n: u8, server: u8, slot: u8) -> Report<S, V>
-    requires room { ⌜ Room n (now part) ⌝ }
     requires row { ⌜ server < n ⌝ }
     requires column { ⌜ slot < n ⌝ }
     ensures { λ r. ⌜ r ≡ fresh above (blank lowest initialValue) (view above (blank lowest initialValue) n (now (part .entry))) server slot ⌝ }
@@ -102,7 +98,6 @@ fn anew<S: Timestamp, V: Value>(
     server: u8,
     slot: u8,
 ) -> Report<S, V>
-    requires room { ⌜ Room n (now part) ⌝ }
     requires row { ⌜ server < n ⌝ }
     requires column { ⌜ slot < n ⌝ }
     ensures { λ r. ⌜ r ≡ anew above (blank lowest initialValue) (members leading) (view above (blank lowest initialValue) n (now (part .entry))) server slot ⌝ }

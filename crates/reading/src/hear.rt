@@ -12,6 +12,7 @@ use crate::evidence::note;
 use crate::evidence::watch_anew;
 use crate::order::raise;
 use crate::reports::Report;
+use crate::reports::entries_for;
 use quorums::QuorumSystem;
 use timestamps::Timestamp;
 use values::Value;
@@ -30,7 +31,7 @@ pub fn forget<S: Timestamp, V: Value>(part: &mut [Report<S, V>])
 fn is_enough(entries: usize, n: u8, server: u8) -> bool
     ensures { λ r. ⌜ r ≡ (leb (n * (n + 1)) entries && ltb server n) ⌝ }
 {
-    n as usize * (n as usize + 1) <= entries && server < n
+    entries_for(n) <= entries && server < n
 }
 
 // A VALUE of the server: what the client keeps of it, and what it decides.
@@ -70,6 +71,12 @@ pub fn hear<Q: QuorumSystem, S: Timestamp, V: Value>(
     if !is_enough(part.len(), n, server) {
         return None;
     }
-    let end = n as usize * (n as usize + 1);
-    learn(system, &mut part[..end], n, server, timestamp, value)
+    learn(
+        system,
+        &mut part[..entries_for(n)],
+        n,
+        server,
+        timestamp,
+        value,
+    )
 }

@@ -1,6 +1,6 @@
 // The servers' latest pairs, and the order that they put the servers in.
 ghost use mathlib.Core.Path.{_≡_};
-ghost use Prim.Native.Nat.{_<_};
+ghost use Prim.Native.Nat.{_<_, _≤_};
 ghost use Rattle.quorums.specs.Sets.{members};
 ghost use Rattle.reading.specs.Readings.{rules, level, ahead, newer, raised, leads};
 ghost use Rattle.reading.specs.Reports.{Room, blank, view};
@@ -21,7 +21,6 @@ pub(crate) fn is_level<S: Timestamp>(a: S, b: S) -> bool
 
 // Whether the timestamp would be the server's latest: of equals the earlier stays.
 fn is_newer<S: Timestamp, V: Value>(part: &[Report<S, V>], n: u8, server: u8, timestamp: S) -> bool
-    requires room { ⌜ Room n (now part) ⌝ }
     requires row { ⌜ server < n ⌝ }
     ensures { λ r. ⌜ r ≡ newer above (view above (blank lowest initialValue) n (now (part .entry))) server timestamp ⌝ }
 {
@@ -56,7 +55,6 @@ pub(crate) fn raise<S: Timestamp, V: Value>(
 
 // Whether another server is ahead of the server.
 fn is_ahead<S: Timestamp, V: Value>(part: &[Report<S, V>], n: u8, server: u8, other: u8) -> bool
-    requires room { ⌜ Room n (now part) ⌝ }
     requires row { ⌜ server < n ⌝ }
     requires second { ⌜ other < n ⌝ }
     ensures { λ r. ⌜ r ≡ ahead above (view above (blank lowest initialValue) n (now (part .entry))) server other ⌝ }
@@ -69,7 +67,7 @@ fn is_ahead<S: Timestamp, V: Value>(part: &[Report<S, V>], n: u8, server: u8, ot
 
 // The servers that are ahead of the server.
 fn ahead_of<S: Timestamp, V: Value>(part: &[Report<S, V>], n: u8, server: u8) -> ServerSet
-    requires room { ⌜ Room n (now part) ⌝ }
+    requires few { ⌜ n ≤ 16 ⌝ }
     requires row { ⌜ server < n ⌝ }
     ensures { λ r. ⌜ members r ≡ ahead above (view above (blank lowest initialValue) n (now (part .entry))) server ⌝ }
 {
@@ -89,7 +87,7 @@ fn is_leader<Q: QuorumSystem, S: Timestamp, V: Value>(
     n: u8,
     server: u8,
 ) -> bool
-    requires room { ⌜ Room n (now part) ⌝ }
+    requires few { ⌜ n ≤ 16 ⌝ }
     requires row { ⌜ server < n ⌝ }
     ensures { λ r. ⌜ r ≡ leads (rules n (quorum (now (system .entry))) (failProne (now (system .entry))) above same) (view above (blank lowest initialValue) n (now (part .entry))) server ⌝ }
 {
@@ -102,7 +100,7 @@ pub(crate) fn leaders<Q: QuorumSystem, S: Timestamp, V: Value>(
     part: &[Report<S, V>],
     n: u8,
 ) -> ServerSet
-    requires room { ⌜ Room n (now part) ⌝ }
+    requires few { ⌜ n ≤ 16 ⌝ }
     ensures { λ r. ⌜ members r ≡ leads (rules n (quorum (now (system .entry))) (failProne (now (system .entry))) above same) (view above (blank lowest initialValue) n (now (part .entry))) ⌝ }
 {
     let mut set = ServerSet::empty();

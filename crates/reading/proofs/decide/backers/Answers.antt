@@ -18,7 +18,7 @@ pub loop-server-again : need.loop-server-again
 loop-server-again g c i =
     let r = view (g .S·Timestamp .above) (blank (g .S·Timestamp .lowest) (g .V·Value .initialValue)) (c .args .n) (c .args .part .now) in
     let p : Set = backers (g .V·Value .same) r (c .args .timestamp) (c .args .value) in
-    let few : c .loop-server .server < 16 = omega (arith, c .pre .room .few) in
+    let few : c .loop-server .server < 16 = omega (arith, c .pre .few) in
     elim (c .if-is-backer .came) [
       | then-is-backer w ↦
           ap (λ m. members m i) (w .set-is) ∙ w .with-set .ensures i

@@ -2,12 +2,19 @@ use mathlib.Core.Path.{_≡_, sym, ap, _∙_}
 use mathlib.Core.Logic.{_≢_}
 use Prim.Native.Nat.{_<_}
 use native.Mathlib.Omega.{arith}
+use borrow.Author.Needs.{scaled-fits}
 use borrow.Author.Count.{below-more}
 use lib.ListN.{length, replicate}
 use Rattle.std.proofs.shelf.Lists.{getD-set-same, getD-set-other, length-replicate, getD-replicate, ext-getD}
 use Rattle.reading.specs.Reports.{blank, view}
 use Rattle.reading.proofs.Parts.{view-blank}
 use Rattle.reading.proofs.hear.forget.Needs as need
+
+pub offset-part-report-index : need.offset-part-report-index
+offset-part-report-index g c = scaled-fits (c .loop-report .report-index) (length (c .args .part .now)) _ (c .loop-report-test .taken) (c .good .0 .1)
+
+pub index-part-report-index : need.index-part-report-index
+index-part-report-index g c = omega (arith, c .loop-report-test .taken, c .loop-report .kept .part)
 
 pub loop-report-again : need.loop-report-again
 loop-report-again g c =

@@ -20,7 +20,7 @@ pub loop-other-again : need.loop-other-again
 loop-other-again g c i =
     let r = view (g .S·Timestamp .above) (blank (g .S·Timestamp .lowest) (g .V·Value .initialValue)) (c .args .n) (c .args .part .now) in
     let p : Set = ahead (g .S·Timestamp .above) r (c .args .server) in
-    let few : c .loop-other .other < 16 = omega (arith, c .pre .room .few) in
+    let few : c .loop-other .other < 16 = omega (arith, c .pre .few) in
     elim (c .if-is-ahead .came) [
       | then-is-ahead w ↦
           ap (λ m. members m i) (w .set-is) ∙ w .with-set .ensures i

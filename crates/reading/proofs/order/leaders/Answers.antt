@@ -24,7 +24,7 @@ loop-server-again g c i =
     let q = c .args .system .now in
     let rule = rules (c .args .n) (g .Q·QuorumSystem .quorum q) (g .Q·QuorumSystem .failProne q) (g .S·Timestamp .above) (g .V·Value .same) in
     let p : Set = leads rule r in
-    let few : c .loop-server .server < 16 = omega (arith, c .pre .room .few) in
+    let few : c .loop-server .server < 16 = omega (arith, c .pre .few) in
     elim (c .if-is-leader .came) [
       | then-is-leader w ↦
           ap (λ m. members m i) (w .set-is) ∙ w .with-set .ensures i

@@ -1,6 +1,8 @@
-use mathlib.Core.Path.{sym, _∙_}
+use mathlib.Core.Path.{sym, ap, _∙_}
+use native.Mathlib.Omega.{arith}
 use borrow.Author.Needs.{needs}
 use Rattle.reading.specs.Reports.{blank, cell, reported, put-at}
+use Rattle.reading.proofs.Cells.{cell-set}
 use Rattle.reading.proofs.Views.{shown-same, raise-yes, raise-no}
 use Rattle.reading.proofs.order.raise.Needs as need
 
@@ -14,7 +16,8 @@ returns-then-is-newer g c =
     record {
       was = search needs;
       after =
-          shown-same above d n (cell d n (c .put .last .part)) (put-at old b n (reported (c .args .timestamp) (c .args .value))) (λ x k l m. c .put .ensures x k m)
+          shown-same above d n (cell d n (c .put .last .part)) (put-at old b n (reported (c .args .timestamp) (c .args .value))) (λ x k l m.
+          ap (λ p. cell d n p x k) (c .put .ensures) ∙ cell-set d n (c .args .part .now) b n (reported (c .args .timestamp) (c .args .value)) (c .pre .room) (c .pre .row) (omega arith) x k m)
           ∙ raise-yes above d n old b (c .pre .row) (c .args .timestamp) (c .args .value) (sym (c .if-is-newer .ensures tt));
     }
 

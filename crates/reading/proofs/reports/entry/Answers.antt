@@ -1,20 +1,19 @@
-use Prim.Native.Nat.{_+_, _*_}
-use native.Mathlib.Omega.{arith}
-use Rattle.std.proofs.shelf.Lists.{getD-read}
+use mathlib.Core.Path.{sym, ap, _∙_}
+use lib.ListN.{getD}
+use Rattle.std.proofs.shelf.Lists.{getD-read, getD-past}
 use Rattle.reading.specs.Reports.{blank}
-use Rattle.reading.proofs.Cells.{inside}
 use Rattle.reading.proofs.reports.entry.Needs as need
 
-pub offset-part-server : need.offset-part-server
-offset-part-server g c =
-    let i = inside (c .args .n) (c .args .part .now) (c .args .server) (c .args .place) (c .pre .room) (c .pre .row) (c .pre .column) in
-    omega arith
+pub returns-then-index-part : need.returns-then-index-part
+returns-then-index-part g c =
+    let d = blank (g .S·Timestamp .lowest) (g .V·Value .initialValue) in
+    let p = c .args .part .now in
+    let i = c .index-of-index .result in
+    getD-read p i (c .index-part-index .result) (c .if-index-part .taken) (c .index-part-index .is) d ∙ ap (λ k. getD p k d) (c .index-of-index .ensures)
 
-pub index-part-server : need.index-part-server
-index-part-server g c = inside (c .args .n) (c .args .part .now) (c .args .server) (c .args .place) (c .pre .room) (c .pre .row) (c .pre .column)
-
-pub returns : need.returns
-returns g c =
-    getD-read (c .args .part .now) (c .args .server * (c .args .n + 1) + c .args .place) (c .index-part-server .result)
-    (inside (c .args .n) (c .args .part .now) (c .args .server) (c .args .place) (c .pre .room) (c .pre .row) (c .pre .column))
-    (c .index-part-server .is) (blank (g .S·Timestamp .lowest) (g .V·Value .initialValue))
+pub returns-else-index-part : need.returns-else-index-part
+returns-else-index-part g c =
+    let d = blank (g .S·Timestamp .lowest) (g .V·Value .initialValue) in
+    let p = c .args .part .now in
+    let i = c .index-of-index .result in
+    c .blank .ensures ∙ sym (getD-past p i d (c .if-index-part .left)) ∙ ap (λ k. getD p k d) (c .index-of-index .ensures)
