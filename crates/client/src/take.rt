@@ -25,7 +25,7 @@ use values::Value;
 
 impl<S: Timestamp, V: Value> Dispatch<S, V> {
     // How many messages go to n servers.
-    fn count(&self, n: u8) -> usize
+    pub(crate) fn count(&self, n: u8) -> usize
         ensures { λ r. ⌜ r ≡ sending n (now (self .entry)) ⌝ }
     {
         match self {

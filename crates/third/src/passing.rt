@@ -41,7 +41,7 @@ fn take_out<S: Copy, V: Copy>(
 }
 
 // Passes a message through the network, and lets the server receive it.
-pub fn deliver<S: Timestamp, V: Value>(
+pub fn hand_over<S: Timestamp, V: Value>(
     server: &mut Server<S, V>,
     listeners: &mut [Listener<S>],
     network: &mut Network,

@@ -21,7 +21,7 @@ pub struct Sent {
     pub total: u64,
 }
 
-pub fn seen(client: u8, kind: u8, number: u32, timestamp: u64, total: u64) -> Sent {
+pub(crate) fn seen(client: u8, kind: u8, number: u32, timestamp: u64, total: u64) -> Sent {
     Sent {
         client,
         kind,
@@ -32,12 +32,12 @@ pub fn seen(client: u8, kind: u8, number: u32, timestamp: u64, total: u64) -> Se
 }
 
 // What the memory of a fixture holds before the first message.
-pub fn blank() -> Sent {
+pub(crate) fn blank() -> Sent {
     seen(0, 0, 0, 0, 0)
 }
 
 // A message between a client and server 7.
-pub fn note(client: u8, kind: u8, number: u32, timestamp: u64, total: u64) -> Note {
+pub(crate) fn note(client: u8, kind: u8, number: u32, timestamp: u64, total: u64) -> Note {
     Message {
         client,
         server: 7,
@@ -50,25 +50,25 @@ pub fn note(client: u8, kind: u8, number: u32, timestamp: u64, total: u64) -> No
 
 // How a server listens to a client.
 #[derive(Clone, Copy, PartialEq, Eq, Debug)]
-pub struct Hearing {
+pub struct ListenerState {
     pub number: u32,
     pub listening: bool,
     pub start: u64,
 }
 
-pub fn hears(number: u32, listening: bool, start: u64) -> Hearing {
-    Hearing {
+pub(crate) fn listens(number: u32, listening: bool, start: u64) -> ListenerState {
+    ListenerState {
         number,
         listening,
         start,
     }
 }
 
-fn listener(hearing: Hearing) -> Listener<Packed> {
+fn listener(state: ListenerState) -> Listener<Packed> {
     Listener {
-        number: hearing.number,
-        listening: hearing.listening,
-        start: Packed::new(hearing.start),
+        number: state.number,
+        listening: state.listening,
+        start: Packed::new(state.start),
     }
 }
 
@@ -83,16 +83,16 @@ pub struct Fixture {
 
 impl Fixture {
     // A server that holds timestamp 69 and total 1250, with so many messages in its network.
-    pub fn new(hearings: [Hearing; 3], len: usize) -> Fixture {
+    pub(crate) fn new(listening: [ListenerState; 3], len: usize) -> Fixture {
         Fixture {
             server: Server {
                 timestamp: Packed::new(69),
                 value: Total::new(1250),
             },
             listeners: [
-                listener(hearings[0]),
-                listener(hearings[1]),
-                listener(hearings[2]),
+                listener(listening[0]),
+                listener(listening[1]),
+                listener(listening[2]),
             ],
             network: Network {
                 capacity: 4,
@@ -104,7 +104,7 @@ impl Fixture {
     }
 
     // Takes a message: the number of the refusal, and 0 where there is none.
-    pub fn receive(&mut self, message: Note, faulty: bool) -> u8 {
+    pub(crate) fn receive(&mut self, message: Note, faulty: bool) -> u8 {
         let taken = self.server.receive(
             &mut self.listeners,
             &mut self.network,
@@ -119,7 +119,7 @@ impl Fixture {
     }
 
     // The message at a place; one from another server than 7 is seen as a message of client 255.
-    pub fn at(&self, place: usize) -> Sent {
+    pub(crate) fn at(&self, place: usize) -> Sent {
         if place >= 4 || self.memory[place].server != 7 {
             return seen(255, 0, 0, 0, 0);
         }
@@ -134,26 +134,30 @@ impl Fixture {
     }
 
     // The four messages of the memory, past the queue too.
-    pub fn all(&self) -> [Sent; 4] {
+    pub(crate) fn all(&self) -> [Sent; 4] {
         [self.at(0), self.at(1), self.at(2), self.at(3)]
     }
 
     // How the server listens to each client of the row.
-    pub fn hearings(&self) -> [Hearing; 3] {
-        [self.hearing_of(0), self.hearing_of(1), self.hearing_of(2)]
+    pub(crate) fn listening(&self) -> [ListenerState; 3] {
+        [
+            self.listening_to(0),
+            self.listening_to(1),
+            self.listening_to(2),
+        ]
     }
 
     // How the server listens to a client of the row.
-    pub fn hearing_of(&self, client: usize) -> Hearing {
+    pub(crate) fn listening_to(&self, client: usize) -> ListenerState {
         if client >= 3 {
-            return hears(0, false, 0);
+            return listens(0, false, 0);
         }
         let listener = self.listeners[client];
-        hears(listener.number, listener.listening, listener.start.number)
+        listens(listener.number, listener.listening, listener.start.number)
     }
 
     // The timestamp and the total held.
-    pub fn held(&self) -> (u64, u64) {
+    pub(crate) fn held(&self) -> (u64, u64) {
         (self.server.timestamp.number, self.server.value.pence)
     }
 }

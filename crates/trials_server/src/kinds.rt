@@ -1,12 +1,12 @@
 // One server: what it does with each kind of message, and what it refuses.
 use crate::fixture::Fixture;
-use crate::fixture::Hearing;
 use crate::fixture::HearingDebug;
 use crate::fixture::HearingPartialEq;
+use crate::fixture::ListenerState;
 use crate::fixture::SentDebug;
 use crate::fixture::SentPartialEq;
 use crate::fixture::blank;
-use crate::fixture::hears;
+use crate::fixture::listens;
 use crate::fixture::note;
 use crate::fixture::seen;
 use std::test::*;
@@ -26,19 +26,23 @@ const VALUE: u8 = 6;
 const STOP: u8 = 7;
 
 // No client is listened to.
-fn quiet() -> [Hearing; 3] {
-    [hears(0, false, 0); 3]
+fn quiet() -> [ListenerState; 3] {
+    [listens(0, false, 0); 3]
 }
 
 // Client 0 is listened to from 69 on, client 2 from 5 on, and client 1 no longer.
-fn two_listening() -> [Hearing; 3] {
-    [hears(3, true, 69), hears(8, false, 0), hears(9, true, 5)]
+fn two_listening() -> [ListenerState; 3] {
+    [
+        listens(3, true, 69),
+        listens(8, false, 0),
+        listens(9, true, 5),
+    ]
 }
 
 // That the server holds what it held at first, and listens as it did.
-fn is_unchanged(fixture: &Fixture, hearings: [Hearing; 3]) -> Result<(), Fail> {
+fn is_unchanged(fixture: &Fixture, listening: [ListenerState; 3]) -> Result<(), Fail> {
     check_eq(fixture.held(), (69, 1250))?;
-    check_eq(fixture.hearings(), hearings)
+    check_eq(fixture.listening(), listening)
 }
 
 #[test]
@@ -113,7 +117,7 @@ fn read_is_answered_if_its_number_is_above_the_last() -> Result<(), Fail> {
         let mut fixture = Fixture::new(two_listening(), 0);
         check_eq(fixture.receive(note(1, READ, number, 500, 7), false), 0)?;
         check_eq(fixture.network.len, sent)?;
-        check_eq(fixture.hearing_of(1), hears(last, listening, start))?;
+        check_eq(fixture.listening_to(1), listens(last, listening, start))?;
         check_eq(fixture.held(), (69, 1250))?;
         if sent == 1 {
             check_eq(fixture.at(0), seen(1, VALUE, number, 69, 1250))?;
@@ -135,8 +139,8 @@ fn stop_ends_listening_if_its_number_is_not_below_the_last() -> Result<(), Fail>
         let mut fixture = Fixture::new(two_listening(), 4);
         check_eq(fixture.receive(note(2, STOP, number, 500, 7), false), 0)?;
         check_eq(fixture.network.len, 4)?;
-        check_eq(fixture.hearing_of(2), hears(last, listening, 5))?;
-        check_eq(fixture.hearing_of(0), hears(3, true, 69))?;
+        check_eq(fixture.listening_to(2), listens(last, listening, 5))?;
+        check_eq(fixture.listening_to(0), listens(3, true, 69))?;
         check_eq(fixture.held(), (69, 1250))?;
     }
     Ok(())

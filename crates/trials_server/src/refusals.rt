@@ -1,13 +1,13 @@
 // What a server refuses, and in which order.
 use crate::fixture::Fixture;
-use crate::fixture::Hearing;
 use crate::fixture::HearingDebug;
 use crate::fixture::HearingPartialEq;
+use crate::fixture::ListenerState;
 use crate::fixture::Note;
 use crate::fixture::SentDebug;
 use crate::fixture::SentPartialEq;
 use crate::fixture::blank;
-use crate::fixture::hears;
+use crate::fixture::listens;
 use crate::fixture::note;
 use network::queue::Network;
 use network::queue::NetworkDebug;
@@ -29,8 +29,12 @@ const READ: u8 = 5;
 const STOP: u8 = 7;
 
 // Clients 0 and 2 are listened to from timestamp 5 on.
-fn two_listening() -> [Hearing; 3] {
-    [hears(3, true, 5), hears(8, false, 0), hears(9, true, 5)]
+fn two_listening() -> [ListenerState; 3] {
+    [
+        listens(3, true, 5),
+        listens(8, false, 0),
+        listens(9, true, 5),
+    ]
 }
 
 // A message with timestamp 70, number 10 and total 20.
@@ -46,7 +50,7 @@ fn taking(before: Network, message: Note, faulty: bool) -> Result<u8, Fail> {
     if refused != 0 {
         check_eq(fixture.network, before)?;
         check_eq(fixture.held(), (69, 1250))?;
-        check_eq(fixture.hearings(), two_listening())?;
+        check_eq(fixture.listening(), two_listening())?;
         check_eq(fixture.all(), [blank(); 4])?;
     }
     Ok(refused)

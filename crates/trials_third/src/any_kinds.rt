@@ -17,7 +17,7 @@ use third::light::Light;
 use third::light::LightDebug;
 use third::light::LightPartialEq;
 use third::light::LightValue;
-use third::passing::deliver;
+use third::passing::hand_over;
 use third::unanimity::UnanimousQuorums;
 use third::unanimous::Unanimous;
 use third::version::Version;
@@ -63,7 +63,7 @@ fn confirmed<S: Timestamp, V: Value>(
     message: Message<S, V>,
 ) -> Result<u8, Fail> {
     let mut network = Network::open(1, memory)?;
-    deliver(server, listeners, &mut network, memory, message)?;
+    hand_over(server, listeners, &mut network, memory, message)?;
     let ack = oldest(&mut network, memory)?;
     check_eq(ack.kind, Kind::Ack.byte())?;
     check(!ack.timestamp.is_above(message.timestamp))?;
