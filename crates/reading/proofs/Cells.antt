@@ -1,24 +1,26 @@
 -- Entries in memory by row and place.
-use mathlib.Core.Path.{_≡_, refl, sym, ap, _∙_}
-use mathlib.Core.Logic.{_⊎_, inl, inr}
-use mathlib.Core.Bool.{Bool, true, false, cond, _&&_}
+use mathlib.Core.Path.{_≡_, sym, ap, _∙_}
+use mathlib.Core.Logic.{inl, inr}
+use mathlib.Core.Bool.{_&&_}
 use mathlib.Core.List.{List}
 use Prim.Native.Nat.{ℕ, _+_, _*_, _/_, _%_, _≤_, _<_}
 use native.Mathlib.Nat.{mul-comm}
 use native.Mathlib.Omega.{arith}
 use lib.Dec.{eqb}
 use lib.ListN.{length, getD, set}
-use Rattle.std.proofs.shelf.Bits.{mul-le, mul-add-lt, div-mul-add, mod-mul-add}
+use Rattle.std.proofs.shelf.Bits.{mul-add-lt, div-mul-add, mod-mul-add}
 use Rattle.std.proofs.shelf.Lists.{getD-set-same, getD-set-other}
 use Rattle.std.proofs.shelf.Tests.{cases-bool, and-parts, and-cases, eqb-true, eqb-false, cond-true, cond-false}
 use Rattle.reading.specs.Reports.{Room, cell, put-at}
 
+-- an entry of a row is within the memory
 pub inside : {R : Type 0} (n : ℕ) (p : List R) (b k : ℕ) → Room n p → b < n → k ≤ n → b * (n + 1) + k < length p
 inside n p b k room hb hk =
     let k1 : k < n + 1 = omega arith in
     let l = room .long in
     omega (arith, mul-add-lt b (n + 1) k n hb k1, mul-comm n (n + 1))
 
+-- entries at one index are in one row, at one place
 apart-row : (n b k c j : ℕ) → k ≤ n → j ≤ n → b * (n + 1) + k ≡ c * (n + 1) + j → b ≡ c
 apart-row n b k c j hk hj e =
     sym (div-mul-add b (n + 1) k (omega arith)) ∙ ap (λ x. x / (n + 1)) e ∙ div-mul-add c (n + 1) j (omega arith)
@@ -27,6 +29,7 @@ apart-place : (n b k c j : ℕ) → k ≤ n → j ≤ n → b * (n + 1) + k ≡ 
 apart-place n b k c j hk hj e =
     sym (mod-mul-add b (n + 1) k (omega arith)) ∙ ap (λ x. x % (n + 1)) e ∙ mod-mul-add c (n + 1) j (omega arith)
 
+-- a write at an index is a write of that entry
 pub cell-set : {R : Type 0} (d : R) (n : ℕ) (p : List R) (b k : ℕ) (x : R) → Room n p → b < n → k ≤ n
     → (c j : ℕ) → j ≤ n → cell d n (set p (b * (n + 1) + k) x) c j ≡ put-at (cell d n p) b k x c j
 cell-set d n p b k x room hb hk c j hj =
@@ -45,6 +48,3 @@ cell-set d n p b k x room hb hk c j hj =
           ])
           ∙ sym (cond-false (eqb b c && eqb k j) x (cell d n p c j) e)
     ]
-
-pub small : (n : ℕ) → n ≤ 16 → n * (n + 1) ≤ 272
-small n h = mul-le n (n + 1) 16 17 h (omega arith)

@@ -1,8 +1,8 @@
 -- The slots after a server has entered.
 use mathlib.Core.Path.{_≡_, refl, sym, ap, ap₂, _∙_}
-use mathlib.Core.Logic.{_⊎_, inl, inr}
-use mathlib.Core.Bool.{Bool, true, false, cond, not, _&&_, _||_}
-use mathlib.Core.List.{List, [], _∷_, _++_}
+use mathlib.Core.Logic.{inl, inr}
+use mathlib.Core.Bool.{Bool, true, false, cond, _&&_, _||_}
+use mathlib.Core.List.{[], _∷_, _++_}
 use Prim.Native.Nat.{ℕ, zero, suc, _+_, _*_, _/_, _%_, _≤_, _<_}
 use native.Mathlib.Omega.{arith}
 use lib.Dec.{eqb, ltb, leb}
@@ -11,7 +11,6 @@ use Rattle.std.specs.declared.option.Option.the-variants.{Some, None}
 use native.Mathlib.Nat.{mod-lt}
 use Rattle.std.proofs.shelf.Bits.{mul-add-lt, div-mul-add, mod-mul-add, div-below, div-add-mod'}
 use Rattle.std.proofs.shelf.Tests.{both-ways, cases-lt, cases-order, le-leb, lt-leb, eq-eqb, eqb-true, cases-bool, and-parts, cond-true, cond-false, lt-ltb, le-ltb, ltb-true, ltb-false, and-left, and-right, and-from, or-right}
-use Rattle.std.proofs.shelf.Ways.{tells}
 use Rattle.reading.specs.declared.reports.Report.{Report}
 use Rattle.timestamps.specs.Laws.{TimestampLaws}
 use Rattle.reading.specs.Readings.{Reading, Rules, level, among, leads, leaders, rewatched, unread}
@@ -25,6 +24,7 @@ and-true : (x : Bool) → (x && true) ≡ x
 and-true true = refl
 and-true false = refl
 
+-- past another place than i
 beyond : (i m : ℕ) → (m ≡ i → ⊥) → leb (i + 1) m ≡ leb i m
 beyond i m ne =
     elim (cases-lt i m) [
@@ -88,9 +88,9 @@ renew-all f g n x k = ap (λ t. cond t (f x k) (g x k)) (ap (λ t. ltb k n && t)
 
 -- ---- all entries
 
-content-carried : {S V : Type 0} (lo : S) (op : V) (s : S) (o : Option V) → content (carried (blank lo op) s o) ≡ o
-content-carried lo op s None = refl
-content-carried lo op s (Some v) = refl
+content-carried : {S V : Type 0} (lowest : S) (initial : V) (s : S) (o : Option V) → content (carried (blank lowest initial) s o) ≡ o
+content-carried lowest initial s None = refl
+content-carried lowest initial s (Some v) = refl
 
 or-false : (x : Bool) → (x || false) ≡ x
 or-false true = refl
@@ -100,9 +100,9 @@ cond-same : {A : Type 0} (b : Bool) (x : A) → cond b x x ≡ x
 cond-same true x = refl
 cond-same false x = refl
 
-module _ {S V : Type 0} (K : Rules S V) (lo : S) (op : V) {owner : S → ℕ} {successor : ℕ → S → S → Option S} (ordered : TimestampLaws (K .above) owner lo successor) (g : Grid S V) where
+module _ {S V : Type 0} (K : Rules S V) (lowest : S) (initial : V) {owner : S → ℕ} {successor : ℕ → S → S → Option S} (ordered : TimestampLaws (K .above) owner lowest successor) (g : Grid S V) where
   abbrev d : Report S V
-  d = blank lo op
+  d = blank lowest initial
 
   abbrev r : Reading S V
   r = shown (K .above) d (K .n) g
@@ -162,7 +162,7 @@ module _ {S V : Type 0} (K : Rules S V) (lo : S) (op : V) {owner : S → ℕ} {s
             let st : s ≡ r .latest i = level-equal (K .above) ordered s (r .latest i) (p .1) in
             cond-true t (content (h c i)) (kept (K .above) h c s i) e
             ∙ ap content (slot c i here ∙ cond-true (leads K r i) (fresh (K .above) d r c i) d (p .0))
-            ∙ content-carried lo op (r .latest i) (has c (r .latest i)) ∙ ap (λ x. has c x) (sym st)
+            ∙ content-carried lowest initial (r .latest i) (has c (r .latest i)) ∙ ap (λ x. has c x) (sym st)
             ∙ sym (cond-true (among (K .above) s (leaders K r (suc i))) (has c s) None (more ∙ or-right (among (K .above) s (leaders K r i)) t e))
         | inr e ↦
             cond-false t (content (h c i)) (kept (K .above) h c s i) e
@@ -174,8 +174,8 @@ module _ {S V : Type 0} (K : Rules S V) (lo : S) (op : V) {owner : S → ℕ} {s
   enter-all =
       same-reading (shown (K .above) d (K .n) h) (rewatched K r)
       (λ c. ap (λ x. cond (ltb c (K .n)) (x .present) false) (late c))
-      (λ c. ap (λ x. cond (ltb c (K .n)) (x .timestamp) lo) (late c))
-      (λ c. ap (λ x. cond (ltb c (K .n)) (x .value) op) (late c))
+      (λ c. ap (λ x. cond (ltb c (K .n)) (x .timestamp) lowest) (late c))
+      (λ c. ap (λ x. cond (ltb c (K .n)) (x .value) initial) (late c))
       (slots-lead (K .n) (omega arith))
       (λ c s. elim (cases-bool (ltb c (K .n))) [
         | inl e ↦ cond-true (ltb c (K .n)) (kept (K .above) h c s (K .n)) None e ∙ kept-lead c s (K .n) (omega arith)
@@ -191,17 +191,17 @@ module _ {S V : Type 0} (K : Rules S V) (lo : S) (op : V) {owner : S → ℕ} {s
 
 -- ---- nothing is known
 
-module _ {S V : Type 0} (above : S → S → Bool) (lo : S) (op : V) where
-  slots-blank : (i : ℕ) → slots (λ (c k : ℕ). blank lo op) i ≡ []
+module _ {S V : Type 0} (above : S → S → Bool) (lowest : S) (initial : V) where
+  slots-blank : (i : ℕ) → slots (λ (c k : ℕ). blank lowest initial) i ≡ []
   slots-blank zero = refl
   slots-blank (suc i) = ap (λ xs. xs ++ []) (slots-blank i)
 
-  kept-blank : (b : ℕ) (s : S) (i : ℕ) → kept above (λ (c k : ℕ). blank lo op) b s i ≡ None
+  kept-blank : (b : ℕ) (s : S) (i : ℕ) → kept above (λ (c k : ℕ). blank lowest initial) b s i ≡ None
   kept-blank b s zero = refl
   kept-blank b s (suc i) = kept-blank b s i
 
-  pub unread-all : (n : ℕ) → shown above (blank lo op) n (λ c k. blank lo op) ≡ unread lo op
+  pub unread-all : (n : ℕ) → shown above (blank lowest initial) n (λ c k. blank lowest initial) ≡ unread lowest initial
   unread-all n =
-      same-reading (shown above (blank lo op) n (λ c k. blank lo op)) (unread lo op)
-      (λ b. cond-same (ltb b n) false) (λ b. cond-same (ltb b n) lo) (λ b. cond-same (ltb b n) op) (slots-blank n)
+      same-reading (shown above (blank lowest initial) n (λ c k. blank lowest initial)) (unread lowest initial)
+      (λ b. cond-same (ltb b n) false) (λ b. cond-same (ltb b n) lowest) (λ b. cond-same (ltb b n) initial) (slots-blank n)
       (λ b s. ap (λ o. cond (ltb b n) o None) (kept-blank b s n) ∙ cond-same (ltb b n) None)

@@ -1,15 +1,15 @@
 -- Evidence that is read and written slot by slot.
-use mathlib.Core.Path.{_≡_, refl, sym, ap, ap₂, _∙_, subst}
-use mathlib.Core.Logic.{_⊎_, inl, inr}
+use mathlib.Core.Path.{_≡_, refl, sym, ap, ap₂, _∙_}
+use mathlib.Core.Logic.{inl, inr}
 use mathlib.Core.Bool.{Bool, true, false, cond, not, _&&_, _||_}
 use mathlib.Core.List.{List, [], _∷_, _++_}
-use Prim.Native.Nat.{ℕ, zero, suc, _+_, _*_, _≤_, _<_}
+use Prim.Native.Nat.{ℕ, zero, suc, _+_, _≤_, _<_}
 use native.Mathlib.Numerals.{add-one}
 use native.Mathlib.Omega.{arith}
 use lib.Dec.{eqb, ltb}
 use Rattle.std.specs.declared.option.Option.{Option}
 use Rattle.std.specs.declared.option.Option.the-variants.{Some, None}
-use Rattle.std.proofs.shelf.Tests.{or-parts, not-false, cases-bool, and-parts, and-cases, eqb-true, eqb-false, eq-eqb, ne-eqb, cond-true, cond-false, lt-ltb, le-ltb, ltb-true, ltb-false, not-true, and-left, and-right, and-from, both-ways, not-from-false}
+use Rattle.std.proofs.shelf.Tests.{cases-bool, and-parts, eqb-true, eq-eqb, cond-true, cond-false, lt-ltb, le-ltb, not-true, and-left, and-right, and-from, both-ways, not-from-false}
 use Rattle.std.proofs.shelf.Ways.{tells}
 use Rattle.reading.specs.declared.reports.Report.{Report}
 use Rattle.timestamps.specs.Laws.{TimestampLaws}
@@ -48,6 +48,7 @@ module _ {S V : Type 0} (above : S → S → Bool) (g : Grid S V) (b : ℕ) (s :
 -- ---- all slots
 
 module _ {S : Type 0} (above : S → S → Bool) {owner : S → ℕ} {low : S} {successor : ℕ → S → S → Option S} (ordered : TimestampLaws above owner low successor) where
+  -- timestamps of which neither is above the other are equal
   pub level-equal : (a b : S) → level above a b ≡ true → a ≡ b
   level-equal a b e =
       let p = and-parts (not (above a b)) (not (above b a)) e in
@@ -56,6 +57,7 @@ module _ {S : Type 0} (above : S → S → Bool) {owner : S → ℕ} {low : S} {
   pub level-same : (a : S) → level above a a ≡ true
   level-same a = let n = not-from-false (above a a) (ordered .irreflexive a) in and-from (not (above a a)) (not (above a a)) n n
 
+-- one timestamp more
 pub among-push : {S : Type 0} (above : S → S → Bool) (s t : S) (xs : List S) (c : Bool) → among above s (xs ++ cond c (t ∷ []) []) ≡ (among above s xs || (c && level above s t))
 among-push above s t [] true = grind (arith, tells)
 among-push above s t [] false = refl

@@ -1,6 +1,6 @@
 -- The reports of a client at the front of a longer memory, and memory in which all is blank.
-use mathlib.Core.Path.{_≡_, sym, ap, subst, _∙_}
-use mathlib.Core.Logic.{_⊎_, inl, inr}
+use mathlib.Core.Path.{_≡_, ap, subst, _∙_}
+use mathlib.Core.Logic.{inl, inr}
 use mathlib.Core.Bool.{Bool, true}
 use mathlib.Core.List.{List, _++_}
 use Prim.Native.Nat.{ℕ, _+_, _*_, _≤_, _<_}
@@ -13,7 +13,7 @@ use Rattle.std.proofs.shelf.Tests.{cases-lt, and-parts, leb-true, ltb-true}
 use Rattle.reading.specs.declared.reports.Report.{Report}
 use Rattle.reading.specs.Readings.{rules, unread, heard, decide}
 use Rattle.reading.specs.Reports.{Room, cell, blank, view}
-use Rattle.reading.specs.Hearing.{Heard, enough-memory}
+use Rattle.reading.specs.Hearing.{Heard, enough-memory, after-value, decided}
 use Rattle.reading.proofs.Cells.{inside}
 use Rattle.reading.proofs.Views.{shown-same}
 use Rattle.reading.proofs.Enters.{unread-all}
@@ -53,9 +53,8 @@ module _ {S V : Type 0} (above : S → S → Bool) where
 module _ {S V : Type 0} (above : S → S → Bool) (same : V → V → Bool) (quorum failProne : (ℕ → Bool) → Bool) (d : Report S V) where
   -- a VALUE that is heard within the reports is heard by the whole memory
   pub heard-whole : (n z k : ℕ) (p y : List (Report S V)) (b : ℕ) (t : S) (v : V) (r : Option (S × V)) → n ≡ z → k ≡ n * (n + 1) → Room n p → length y ≡ k
-      → view above d n y ≡ heard (rules n quorum failProne above same) (view above d n (take k p)) b t v
-      → r ≡ decide (rules n quorum failProne above same) (heard (rules n quorum failProne above same) (view above d n (take k p)) b t v)
-      (heard (rules n quorum failProne above same) (view above d n (take k p)) b t v .watched)
+      → view above d n y ≡ after-value (rules n quorum failProne above same) d (take k p) b t v
+      → r ≡ decided (rules n quorum failProne above same) d (take k p) b t v
       → Heard (rules z quorum failProne above same) d p b t v r (y ++ drop k p)
   heard-whole n z k p y b t v r nz kz room long after answer =
       let size = n * (n + 1) in

@@ -1,15 +1,13 @@
 -- What memory shows after it is written.
-use mathlib.Core.Path.{_≡_, refl, sym, ap, ap₂, _∙_, subst}
-use mathlib.Core.Logic.{_⊎_, inl, inr}
-use mathlib.Core.Bool.{Bool, true, false, cond, not, _&&_, _||_}
-use mathlib.Core.List.{List, [], _∷_, _++_}
-use Prim.Native.Nat.{ℕ, zero, suc, _+_, _*_, _≤_, _<_}
+use mathlib.Core.Path.{_≡_, refl, sym, ap, ap₂, _∙_}
+use mathlib.Core.Logic.{inl, inr}
+use mathlib.Core.Bool.{Bool, true, false, cond, not, _&&_}
+use mathlib.Core.List.{[], _∷_, _++_}
+use Prim.Native.Nat.{ℕ, zero, suc, _+_, _≤_, _<_}
 use native.Mathlib.Omega.{arith}
 use lib.Dec.{eqb, ltb}
-use lib.ListN.{length, getD, set}
-use Rattle.std.specs.declared.option.Option.{Option}
-use Rattle.std.specs.declared.option.Option.the-variants.{Some, None}
-use Rattle.std.proofs.shelf.Tests.{or-parts, not-false, cases-bool, and-parts, and-cases, eqb-true, eqb-false, eq-eqb, ne-eqb, cond-true, cond-false, lt-ltb, le-ltb, ltb-true, ltb-false, not-true, and-left, and-right, and-from, both-ways}
+use Rattle.std.specs.declared.option.Option.the-variants.{None}
+use Rattle.std.proofs.shelf.Tests.{or-parts, not-false, cases-bool, eqb-true, eq-eqb, ne-eqb, cond-true, cond-false, lt-ltb, le-ltb, ltb-true, and-left, and-right, and-from}
 use Rattle.reading.specs.declared.reports.Report.{Report}
 use Rattle.reading.specs.Readings.{Reading, level, updated, newer, raised}
 use Rattle.reading.specs.Reports.{Grid, slots, content, watches, kept, shown, put-at, reported}

@@ -19,10 +19,14 @@ enough-memory n p b = leb (n * (n + 1)) (length p) && ltb b n
 abbrev pub after-value : {S V : Type 0} → Rules S V → Report S V → List (Report S V) → ℕ → S → V → Reading S V
 after-value K d p b t v = heard K (view (K .above) d (K .n) p) b t v
 
+-- what the client decides then
+abbrev pub decided : {S V : Type 0} → Rules S V → Report S V → List (Report S V) → ℕ → S → V → Option (S × V)
+decided K d p b t v = decide K (after-value K d p b t v) (after-value K d p b t v .watched)
+
 -- memory p becomes q: it shows what is known after the VALUE, and the entries past the client's reports stay; the answer r is the decision
 pub record Heard {S V : Type 0} (K : Rules S V) (d : Report S V) (p : List (Report S V)) (b : ℕ) (t : S) (v : V) (r : Option (S × V)) (q : List (Report S V)) : Type 0 where
   pub after : view (K .above) d (K .n) q ≡ after-value K d p b t v
-  pub answer : r ≡ decide K (after-value K d p b t v) (after-value K d p b t v .watched)
+  pub answer : r ≡ decided K d p b t v
   pub rest : drop (K .n * (K .n + 1)) q ≡ drop (K .n * (K .n + 1)) p
 
 -- nothing is decided, and the memory stays

@@ -4,9 +4,9 @@ ghost use mathlib.Core.Bool.{_&&_};
 ghost use Prim.Native.Nat.{ℕ, _+_, _*_, _<_};
 ghost use lib.Dec.{leb, ltb};
 ghost use lib.ListN.{length, replicate};
-ghost use Rattle.reading.specs.Readings.{rules, unread, heard, decide};
+ghost use Rattle.reading.specs.Readings.{rules, unread};
 ghost use Rattle.reading.specs.Reports.{Room, blank, view};
-ghost use Rattle.reading.specs.Hearing.{Hearing};
+ghost use Rattle.reading.specs.Hearing.{Hearing, after-value, decided};
 use crate::decide::decide;
 use crate::evidence::note;
 use crate::evidence::watch_anew;
@@ -45,8 +45,8 @@ fn learn<Q: QuorumSystem, S: Timestamp, V: Value>(
 ) -> Option<(S, V)>
     requires room { ⌜ Room n (now part) ⌝ }
     requires row { ⌜ server < n ⌝ }
-    ensures after { λ _. ⌜ view above (blank lowest initialValue) n (now (part .exit)) ≡ heard (rules n (quorum (now (system .entry))) (failProne (now (system .entry))) above same) (view above (blank lowest initialValue) n (now (part .entry))) server timestamp value ⌝ }
-    ensures answer { λ r. ⌜ r ≡ decide (rules n (quorum (now (system .entry))) (failProne (now (system .entry))) above same) (heard (rules n (quorum (now (system .entry))) (failProne (now (system .entry))) above same) (view above (blank lowest initialValue) n (now (part .entry))) server timestamp value) (heard (rules n (quorum (now (system .entry))) (failProne (now (system .entry))) above same) (view above (blank lowest initialValue) n (now (part .entry))) server timestamp value .watched) ⌝ }
+    ensures after { λ _. ⌜ view above (blank lowest initialValue) n (now (part .exit)) ≡ after-value (rules n (quorum (now (system .entry))) (failProne (now (system .entry))) above same) (blank lowest initialValue) (now (part .entry)) server timestamp value ⌝ }
+    ensures answer { λ r. ⌜ r ≡ decided (rules n (quorum (now (system .entry))) (failProne (now (system .entry))) above same) (blank lowest initialValue) (now (part .entry)) server timestamp value ⌝ }
 {
     let known = raise(part, n, server, timestamp, value);
     if !known {

@@ -1,4 +1,4 @@
-use mathlib.Core.Path.{_≡_, sym, ap, _∙_}
+use mathlib.Core.Path.{sym, ap, _∙_}
 use native.Mathlib.Numerals.{add-one}
 use Rattle.reading.specs.Readings.{backed, backers, value-of, rules}
 use Rattle.reading.specs.Reports.{blank, view}

@@ -1,7 +1,6 @@
 use mathlib.Core.Path.{_≡_, sym, ap, _∙_}
 use Prim.Native.Nat.{_-_}
 use native.Mathlib.Omega.{arith}
-use Rattle.std.specs.declared.option.Option.the-variants.{None}
 use Rattle.reading.specs.Readings.{rules}
 use Rattle.reading.specs.Reports.{blank, view, cell, slots}
 use Rattle.reading.proofs.Decides.{decide-from, decide-none, decide-step}

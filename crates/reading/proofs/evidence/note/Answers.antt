@@ -1,6 +1,5 @@
 use mathlib.Core.Path.{_≡_, sym, ap, _∙_}
 use mathlib.Core.Bool.{_&&_}
-use Prim.Native.Nat.{ℕ}
 use native.Mathlib.Omega.{arith}
 use Rattle.reading.specs.Readings.{level}
 use Rattle.reading.specs.Reports.{Room, blank, reported, cell, watches, note-to}

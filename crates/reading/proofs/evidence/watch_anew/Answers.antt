@@ -1,6 +1,5 @@
-use mathlib.Core.Path.{_≡_, sym, ap, _∙_}
+use mathlib.Core.Path.{ap, _∙_}
 use mathlib.Core.Bool.{cond}
-use Prim.Native.Nat.{ℕ}
 use lib.Dec.{ltb}
 use Rattle.quorums.specs.Sets.{members}
 use Rattle.reading.specs.Readings.{rules, leads}
