@@ -1,7 +1,7 @@
 // What a server refuses, and in which order.
 use crate::fixture::Fixture;
-use crate::fixture::HearingDebug;
-use crate::fixture::HearingPartialEq;
+use crate::fixture::ListenerStateDebug;
+use crate::fixture::ListenerStatePartialEq;
 use crate::fixture::ListenerState;
 use crate::fixture::Note;
 use crate::fixture::SentDebug;
