@@ -1,0 +1,2 @@
+// The register over lent memory: its parts at servers and clients.
+mod serve;
