@@ -1,2 +1,3 @@
 pub mod Parts
 pub mod Serving
+pub mod Attending

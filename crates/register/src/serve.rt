@@ -22,8 +22,8 @@ pub(crate) fn serve<S: Timestamp, V: Value>(
     faulty: bool,
 ) -> Result<(), Refusal>
     requires within { ⌜ message .server < length (now servers) ⌝ }
-    requires rows { ⌜ length (now servers) * clients ≤ length (now listeners) ⌝ }
-    ensures { λ r. ⌜ Served above lowest initialValue (length (now (servers .entry))) clients faulty (now (servers .entry)) (now (listeners .entry)) (now (network .entry)) (now (memory .entry)) message r (now (servers .exit)) (now (listeners .exit)) (now (network .exit)) (now (memory .exit)) ⌝ }
+    requires row { ⌜ message .server * clients + clients ≤ length (now listeners) ⌝ }
+    ensures { λ r. ⌜ ((n : ℕ) → message .server < n → Served above lowest initialValue n clients faulty (now (servers .entry)) (now (listeners .entry)) (now (network .entry)) (now (memory .entry)) message r (now (servers .exit)) (now (listeners .exit)) (now (network .exit)) (now (memory .exit))) ⌝ }
 {
     let place = message.server as usize;
     let first = place * clients;
