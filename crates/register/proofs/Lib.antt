@@ -1,0 +1,3 @@
+pub mod Parts
+pub mod Serving
+pub mod Attending
