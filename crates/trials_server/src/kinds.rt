@@ -1,8 +1,8 @@
 // One server: what it does with each kind of message, and what it refuses.
 use crate::fixture::Fixture;
+use crate::fixture::ListenerState;
 use crate::fixture::ListenerStateDebug;
 use crate::fixture::ListenerStatePartialEq;
-use crate::fixture::ListenerState;
 use crate::fixture::SentDebug;
 use crate::fixture::SentPartialEq;
 use crate::fixture::blank;

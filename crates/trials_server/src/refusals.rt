@@ -1,8 +1,8 @@
 // What a server refuses, and in which order.
 use crate::fixture::Fixture;
+use crate::fixture::ListenerState;
 use crate::fixture::ListenerStateDebug;
 use crate::fixture::ListenerStatePartialEq;
-use crate::fixture::ListenerState;
 use crate::fixture::Note;
 use crate::fixture::SentDebug;
 use crate::fixture::SentPartialEq;
