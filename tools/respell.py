@@ -12,7 +12,7 @@ import re
 import sys
 
 KEPT = re.compile(r"(length-(?!after$|kept$)|map-(?=place$|lifted$))")
-TOKEN = re.compile(r"[^\s(){}\[\].,;⌜⌝`\"|∣\\]+")
+TOKEN = re.compile(r"[^\s(){}\[\].,;:⌜⌝`\"|∣\\]+")
 DECL = re.compile(r"^\s*(?:(?:abbrev|unfoldable|pub|ruleset)\s+)*([^\s:(){}λ]+)\s*:(?=\s)")
 DATA = re.compile(r"^\s*(?:pub\s+)?(?:data|record)\s+(\S+)")
 LOCAL = re.compile(r"(?:\blet\s+|λ\s*\(?)([a-z][\w'-]*(?:\s+[a-z][\w'-]*)*)")

@@ -1,5 +1,7 @@
 // What is asked of a register and what it answers. A refusal has a number, by which scripts and terminals
 // know it. S is the kind of timestamps and V that of values.
+#![tactic(auto)]
+
 ghost use Rattle.std.specs.Prelude.{◌≡◌};
 ghost use Rattle.calls.specs.Refusals.{number_of};
 

@@ -1,4 +1,5 @@
 // Worked cases of the rules, stated over the definitions that the contracts cite.
+#![tactic(auto)]
 ghost use Rattle.std.specs.Prelude.{◌≡◌};
 ghost use Rattle.cases.specs.Worked.{Cases};
 

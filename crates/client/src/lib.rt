@@ -1,4 +1,5 @@
 // One client: its open operation, and what it does with a message.
+#![tactic(auto)]
 pub mod begin;
 mod listening;
 pub mod send;

@@ -1,4 +1,5 @@
 // The register over lent memory: a delivery, and its parts at servers and clients.
+#![tactic(auto)]
 mod attend;
 pub mod deliver;
 mod hand;

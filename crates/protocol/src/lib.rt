@@ -1,1 +1,2 @@
 // The protocol of the register, as definitions: specs/ has them, and contracts of other crates cite them.
+#![tactic(auto)]

@@ -1,4 +1,6 @@
 // Quorum systems: which sets of servers are quorums, and which may all be faulty at once.
+#![tactic(auto)]
+
 ghost use Rattle.std.specs.Prelude.{◌≡◌, ℕ, Bool};
 ghost use Rattle.quorums.specs.Sets.{Set, members};
 ghost use Rattle.quorums.specs.Laws.{QuorumLaws};
@@ -19,7 +21,7 @@ pub trait QuorumSystem: Copy {
     ghost quorum: { Self → Set → Bool };
 
     // which sets of servers may all be faulty at once
-    ghost failProne: { Self → Set → Bool };
+    ghost fail_prone: { Self → Set → Bool };
 
     fn servers(&self) -> u8
         ensures { result ≡ size self.now };

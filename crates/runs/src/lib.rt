@@ -1,2 +1,3 @@
 // A whole run of a register.
+#![tactic(auto)]
 pub mod play;

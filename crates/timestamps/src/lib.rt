@@ -1,4 +1,6 @@
 // Timestamps of clients, in a strict total order.
+#![tactic(auto)]
+
 ghost use Rattle.std.specs.Prelude.{◌≡◌, ℕ, Bool, Option};
 ghost use Rattle.timestamps.specs.Laws.{Next, TimestampLaws};
 

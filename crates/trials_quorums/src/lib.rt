@@ -1,4 +1,5 @@
 // Tests of sets of servers and of quorum systems.
+#![tactic(auto)]
 #[cfg(test)]
 mod listed;
 #[cfg(test)]

@@ -1,4 +1,5 @@
 // Tests of one server.
+#![tactic(auto)]
 #[cfg(test)]
 mod fixture;
 #[cfg(test)]

@@ -1,4 +1,5 @@
 // Tests of kinds of one's own, and of functions that work with any kinds.
+#![tactic(auto)]
 #[cfg(test)]
 mod any_kinds;
 #[cfg(test)]

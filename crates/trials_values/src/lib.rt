@@ -1,4 +1,5 @@
 // Tests of timestamps and values.
+#![tactic(auto)]
 #[cfg(test)]
 mod alike;
 #[cfg(test)]

@@ -1,4 +1,6 @@
 // Values that a register holds, with an equality that is exact.
+#![tactic(auto)]
+
 ghost use Rattle.std.specs.Prelude.{◌≡◌, Bool};
 ghost use Rattle.values.specs.Laws.{ValueLaws};
 
@@ -8,7 +10,7 @@ pub mod total_value;
 
 pub trait Value: Copy {
     // what a register holds before the first write
-    ghost initialValue: { Self };
+    ghost initial_value: { Self };
 
     // whether two values are equal
     ghost same: { Self → Self → Bool };

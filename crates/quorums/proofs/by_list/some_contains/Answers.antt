@@ -5,7 +5,7 @@ pub returns-then-is-part-of : goal.returns-then-is-part-of
 returns-then-is-part-of c = any_found _ _ _ c.loop-listed.invariant c.loop-listed-test.true _ c.if-is-part-of.ensures
 
 pub loop-listed-preserved : goal.loop-listed-preserved
-loop-listed-preserved c = any_next _ _ _ c.loop-listed.invariant c.loop-listed-test.true _ c.if-is-part-of.ensures
+loop-listed-preserved c = any_next _ _ _ c.loop-listed.invariant c.loop-listed-test.true _ c.if-is_part_of.ensures
 
 pub returns : goal.returns
 returns c = any_missed _ _ _ c.loop-listed.invariant c.loop-listed-test.false

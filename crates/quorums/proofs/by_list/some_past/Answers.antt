@@ -5,7 +5,7 @@ pub returns-then-is-past : goal.returns-then-is-past
 returns-then-is-past c = any_found _ _ _ c.loop-set.invariant c.loop-set-test.true _ c.if-is-past.ensures
 
 pub loop-set-preserved : goal.loop-set-preserved
-loop-set-preserved c = any_next _ _ _ c.loop-set.invariant c.loop-set-test.true _ c.if-is-past.ensures
+loop-set-preserved c = any_next _ _ _ c.loop-set.invariant c.loop-set-test.true _ c.if-is_past.ensures
 
 pub returns : goal.returns
 returns c = any_missed _ _ _ c.loop-set.invariant c.loop-set-test.false

@@ -3,4 +3,4 @@ use Rattle.std.proofs.lemmas.List.{take_at}
 use Rattle.quorums.proofs.by_list.stored.Goals as goal
 
 pub returns : goal.returns
-returns c = let after = c.copy-from-slice.ensures.after in take_at c.copy-from-slice.new.self _ (length c.args.sets.now) (ap length after) ∙ after
+returns c = let after = c.copy_from_slice.ensures.after in take_at c.copy_from_slice.new.self _ (length c.args.sets.now) (ap length after) ∙ after

@@ -5,7 +5,7 @@ pub returns-then-two-cover-with : goal.returns-then-two-cover-with
 returns-then-two-cover-with c = any_found _ _ _ c.loop-set.invariant c.loop-set-test.true _ c.if-two-cover-with.ensures
 
 pub loop-set-preserved : goal.loop-set-preserved
-loop-set-preserved c = any_next _ _ _ c.loop-set.invariant c.loop-set-test.true _ c.if-two-cover-with.ensures
+loop-set-preserved c = any_next _ _ _ c.loop-set.invariant c.loop-set-test.true _ c.if-two_cover_with.ensures
 
 pub returns : goal.returns
 returns c = any_missed _ _ _ c.loop-set.invariant c.loop-set-test.false

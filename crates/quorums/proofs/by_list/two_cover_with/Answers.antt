@@ -5,7 +5,7 @@ pub returns-then-one-covers-with : goal.returns-then-one-covers-with
 returns-then-one-covers-with c = any_found _ _ _ c.loop-set.invariant c.loop-set-test.true _ c.if-one-covers-with.ensures
 
 pub loop-set-preserved : goal.loop-set-preserved
-loop-set-preserved c = any_next _ _ _ c.loop-set.invariant c.loop-set-test.true _ c.if-one-covers-with.ensures
+loop-set-preserved c = any_next _ _ _ c.loop-set.invariant c.loop-set-test.true _ c.if-one_covers_with.ensures
 
 pub returns : goal.returns
 returns c = any_missed _ _ _ c.loop-set.invariant c.loop-set-test.false

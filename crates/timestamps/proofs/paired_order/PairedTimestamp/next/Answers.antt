@@ -11,6 +11,6 @@ returns-in-Some c =
     let a = c.args.a in
     let b = c.args.b in
     let e : c.new.result ≡ paired_successor client a b =
-    made_next client c.in-Some.count a b c.higher-of.result c.new.result c.new.ensures c.in-Some.ensures c.higher-of.ensures in
+    made_next client c.in-Some.count a b c.higher_of.result c.new.result c.new.ensures c.in-Some.ensures c.higher_of.ensures in
     let P : Option Paired → Type 0 = Next paired_above paired_owner client a b in
     record { exact = e; least = subst P (sym e) (paired_lowest_next client a b) }
