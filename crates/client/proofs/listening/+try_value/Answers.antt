@@ -11,10 +11,10 @@ returns-then-i-part g t c =
     (blank g.S.Timestamp.lowest g.row.V-Value.initial_value) c.args.message.server c.args.message.timestamp c.args.message.value
     c.args.part.now c.hear.new.part c.args.i c.hear.result c.if-i-part.true c.hear.auto.part c.hear.ensures
 
-pub returns-then-is-some : goal.returns-then-is-some
-returns-then-is-some g t c =
+pub returns-then-is_some : goal.returns-then-is_some
+returns-then-is_some g t c =
     let q = c.args.system.now in
     try_back (rules (g.Q.QuorumSystem.size q) (g.Q.QuorumSystem.quorum q) (g.Q.QuorumSystem.fail_prone q) g.S.Timestamp.above g.row.V-Value.same)
     (blank g.S.Timestamp.lowest g.row.V-Value.initial_value) c.args.message.server c.args.message.timestamp c.args.message.value
-    c.args.part.now c.try-value-found.new.part c.args.i c.index-part-i.result c.try-value-found.result
-    c.if-i-part.false c.try-value-found.auto.part c.index-part-i.is (sym c.is-some.ensures ∙ c.if-is-some.true) c.try-value-found.ensures
+    c.args.part.now c.try_value-found.new.part c.args.i c.index-part-i.result c.try_value-found.result
+    c.if-i-part.false c.try_value-found.auto.part c.index-part-i.is (sym c.is_some.ensures ∙ c.if-is_some.true) c.try_value-found.ensures

@@ -16,7 +16,7 @@ loop-server-preserved g c =
     let few : Room before (length memory) (length (to_all i f) + 1) =
     record { sizes = c.requires.sizes; none_lifted = c.requires.none_lifted; left = omega (arith, c.requires.left, length-to_all i f) } in
     let room = room_after before c.loop-server.network memory c.loop-server.memory (to_all i f) 1 c.loop-server.invariant few in
-    let one = posted_sent c.loop-server.network c.post.new.self c.loop-server.memory c.post.new.memory c.message-for.result c.post.result room c.post.ensures in
-    let all = sent_then before c.loop-server.network c.post.new.self memory c.loop-server.memory c.post.new.memory (to_all i f) (c.message-for.result ∷ []) c.loop-server.invariant one in
+    let one = posted_sent c.loop-server.network c.post.new.self c.loop-server.memory c.post.new.memory c.message_for.result c.post.result room c.post.ensures in
+    let all = sent_then before c.loop-server.network c.post.new.self memory c.loop-server.memory c.post.new.memory (to_all i f) (c.message_for.result ∷ []) c.loop-server.invariant one in
     let P : List M → Type 0 = λ ms. Sent before memory ms c.post.new.self c.post.new.memory in
-    subst P (ap (λ m. to_all i f ++ m ∷ []) c.message-for.ensures ∙ ap (λ k. to_all k f) (sym (add-one i))) all
+    subst P (ap (λ m. to_all i f ++ m ∷ []) c.message_for.ensures ∙ ap (λ k. to_all k f) (sym (add-one i))) all

@@ -12,36 +12,36 @@ use Rattle.delivery.specs.Parts.{Attended}
 use Rattle.delivery.proofs.Attending.{attended}
 use Rattle.delivery.proofs.attend.attend.Goals as goal
 
-pub overflow-mul-first : goal.overflow-mul-first
-overflow-mul-first g c =
+pub overflow_mul-first : goal.overflow_mul-first
+overflow_mul-first g c =
     let n = g.Q.QuorumSystem.size c.args.system.now in
-    let k = c.entries-for-count.result in
-    let size : k ≡ n * (n + 1) = c.entries-for-count.ensures ∙ ap (λ x. x * (x + 1)) c.servers.ensures in
+    let k = c.entries_for-count.result in
+    let size : k ≡ n * (n + 1) = c.entries_for-count.ensures ∙ ap (λ x. x * (x + 1)) c.servers.ensures in
     let ends : c.args.message.client * k + k ≤ length c.args.reports.now = subst (λ x. c.args.message.client * x + x ≤ length c.args.reports.now) (sym size) c.requires.part in
     omega (arith, ends)
 
-pub overflow-add-first : goal.overflow-add-first
-overflow-add-first g c =
+pub overflow_add-first : goal.overflow_add-first
+overflow_add-first g c =
     let n = g.Q.QuorumSystem.size c.args.system.now in
-    let k = c.entries-for-count.result in
-    let size : k ≡ n * (n + 1) = c.entries-for-count.ensures ∙ ap (λ x. x * (x + 1)) c.servers.ensures in
+    let k = c.entries_for-count.result in
+    let size : k ≡ n * (n + 1) = c.entries_for-count.ensures ∙ ap (λ x. x * (x + 1)) c.servers.ensures in
     let ends : c.args.message.client * k + k ≤ length c.args.reports.now = subst (λ x. c.args.message.client * x + x ≤ length c.args.reports.now) (sym size) c.requires.part in
     omega (arith, ends)
 
-pub offset-bounds-reports-first : goal.offset-bounds-reports-first
-offset-bounds-reports-first g c =
+pub offset_bounds-reports-first : goal.offset_bounds-reports-first
+offset_bounds-reports-first g c =
     let n = g.Q.QuorumSystem.size c.args.system.now in
-    let k = c.entries-for-count.result in
-    let size : k ≡ n * (n + 1) = c.entries-for-count.ensures ∙ ap (λ x. x * (x + 1)) c.servers.ensures in
+    let k = c.entries_for-count.result in
+    let size : k ≡ n * (n + 1) = c.entries_for-count.ensures ∙ ap (λ x. x * (x + 1)) c.servers.ensures in
     let ends : c.args.message.client * k + k ≤ length c.args.reports.now = subst (λ x. c.args.message.client * x + x ≤ length c.args.reports.now) (sym size) c.requires.part in
     let i : c.args.message.client * k ≤ length c.args.reports.now = omega (arith, ends) in
     search (rules, scaled_fits≤)
 
-pub slice-bounds-take-in-end : goal.slice-bounds-take-in-end
-slice-bounds-take-in-end g c =
+pub slice_bounds-take_in-end : goal.slice_bounds-take_in-end
+slice_bounds-take_in-end g c =
     let n = g.Q.QuorumSystem.size c.args.system.now in
-    let k = c.entries-for-count.result in
-    let size : k ≡ n * (n + 1) = c.entries-for-count.ensures ∙ ap (λ x. x * (x + 1)) c.servers.ensures in
+    let k = c.entries_for-count.result in
+    let size : k ≡ n * (n + 1) = c.entries_for-count.ensures ∙ ap (λ x. x * (x + 1)) c.servers.ensures in
     let ends : c.args.message.client * k + k ≤ length c.args.reports.now = subst (λ x. c.args.message.client * x + x ≤ length c.args.reports.now) (sym size) c.requires.part in
     omega (arith, ends)
 
@@ -49,8 +49,8 @@ pub returns : goal.returns
 returns g c m few =
     let q = c.args.system.now in
     let n = g.Q.QuorumSystem.size c.args.system.now in
-    let k = c.entries-for-count.result in
-    let size : k ≡ n * (n + 1) = c.entries-for-count.ensures ∙ ap (λ x. x * (x + 1)) c.servers.ensures in
+    let k = c.entries_for-count.result in
+    let size : k ≡ n * (n + 1) = c.entries_for-count.ensures ∙ ap (λ x. x * (x + 1)) c.servers.ensures in
     let ends : c.args.message.client * k + k ≤ length c.args.reports.now = subst (λ x. c.args.message.client * x + x ≤ length c.args.reports.now) (sym size) c.requires.part in
     let K = setting 0 0 0 (rules n (g.Q.QuorumSystem.quorum q) (g.Q.QuorumSystem.fail_prone q) g.S.Timestamp.above g.row.V-Value.same) g.S.Timestamp.owner g.S.Timestamp.lowest g.S.Timestamp.successor g.row.V-Value.initial_value in
     let first : Client g.row.S.Denot g.row.V.Denot = new_client g.S.Timestamp.lowest in
@@ -61,18 +61,18 @@ returns g c m few =
     let width : u * k + k - u * k ≡ k = omega arith in
     let given : get_or cs u c.index-clients-place.result ≡ get_or cs u first = get_or_default cs u c.index-clients-place.result first c.requires.client in
     let R : Client g.row.S.Denot g.row.V.Denot → ℕ → Type 0 = λ x z.
-    TakenIn K d x (take z (drop (u * k) ps)) c.args.message c.args.kind c.args.room c.take-in.result c.take-in.new.self c.take-in.new.part in
-    let taken : R (get_or cs u first) k = subst (λ z. R (get_or cs u first) z) width (subst (λ x. R x (u * k + k - u * k)) given c.take-in.ensures) in
+    TakenIn K d x (take z (drop (u * k) ps)) c.args.message c.args.kind c.args.room c.take_in.result c.take_in.new.self c.take_in.new.part in
+    let taken : R (get_or cs u first) k = subst (λ z. R (get_or cs u first) z) width (subst (λ x. R x (u * k + k - u * k)) given c.take_in.ensures) in
     let rest : length (drop (u * k) ps) ≡ length ps - u * k = length-drop (u * k) ps in
     let long : length (part k ps u) ≡ k = length-take-le k (drop (u * k) ps) (omega (arith, rest, ends)) in
-    let kept : length c.take-in.new.part ≡ k = search rules in
+    let kept : length c.take_in.new.part ≡ k = search rules in
     let inside : u * k + k ≤ length ps = omega (arith, ends) in
     let W : ℕ → Type 0 = λ z.
-    (u * z + z ≤ length ps) × (length (part z ps u) ≡ z) × (length c.take-in.new.part ≡ z)
-    × TakenIn K d (get_or cs u first) (part z ps u) c.args.message c.args.kind c.args.room c.take-in.result c.take-in.new.self c.take-in.new.part in
+    (u * z + z ≤ length ps) × (length (part z ps u) ≡ z) × (length c.take_in.new.part ≡ z)
+    × TakenIn K d (get_or cs u first) (part z ps u) c.args.message c.args.kind c.args.room c.take_in.result c.take_in.new.self c.take_in.new.part in
     let whole : W (n * (n + 1)) = subst W size (inside, long, kept, taken) in
     let done = attended K m cs ps c.args.message c.args.kind c.args.room few c.requires.client c.requires.server whole.0 whole.1
-    c.take-in.result c.take-in.new.self c.take-in.new.part whole.2 whole.3 in
+    c.take_in.result c.take_in.new.self c.take_in.new.part whole.2 whole.3 in
     let P : ℕ → ℕ → Type 0 = λ y z.
-    Attended K m cs ps c.args.message c.args.kind c.args.room c.take-in.result (set cs u c.take-in.new.self) (put_mid (u * y) z ps c.take-in.new.part) in
+    Attended K m cs ps c.args.message c.args.kind c.args.room c.take_in.result (set cs u c.take_in.new.self) (put_mid (u * y) z ps c.take_in.new.part) in
     subst (λ z. P k z) (sym width) (subst (λ y. P y y) (sym size) done)

@@ -21,8 +21,8 @@ returns-then-not-suffice g c =
     sym (c.if-not-suffice.ensures ∙ ap₂ (λ k s. enough_for k c.args.m c.args.capacity len s) c.servers-n.ensures c.of-sizes.ensures) in
     delivery_short K len c.args.faulty x c.args.place was
 
-pub hand-over-answer-requires : goal.hand-over-answer-requires
-hand-over-answer-requires g c =
+pub hand_over-answer-requires : goal.hand_over-answer-requires
+hand_over-answer-requires g c =
     let n = g.Q.QuorumSystem.size c.args.system.now in
     let len = c.args.len.now in
     let m = c.args.m in
@@ -50,14 +50,14 @@ returns-in-Ok g c =
     let place = c.args.place in
     let K = λ (k : _). setting m k 4294967295 (rules n (g.Q.QuorumSystem.quorum q) (g.Q.QuorumSystem.fail_prone q) g.S.Timestamp.above g.row.V-Value.same) g.S.Timestamp.owner g.S.Timestamp.lowest g.S.Timestamp.successor g.row.V-Value.initial_value in
     let x = lent c.args.servers.now c.args.clients.now c.args.listeners.now c.args.messages.now c.args.reports.now in
-    let x' = lent c.hand-over-answer.new.servers c.hand-over-answer.new.clients c.hand-over-answer.new.listeners c.hand-over-answer.new.messages c.hand-over-answer.new.reports in
+    let x' = lent c.hand_over-answer.new.servers c.hand_over-answer.new.clients c.hand_over-answer.new.listeners c.hand_over-answer.new.messages c.hand_over-answer.new.reports in
     let was : enough_for n m capacity len (sizes_of x) ≡ true =
     sym (c.if-not-suffice.ensures ∙ ap₂ (λ k s. enough_for k m capacity len s) c.servers-n.ensures c.of-sizes.ensures) in
     let taken = c.in-Ok.ensures in
     let low = taken_inside capacity len (length c.args.messages.now) place taken.0 in
-    let P : Network → Type 0 = λ w. HandedOver (K w.capacity) w c.args.faulty x c.in-Ok.message c.hand-over-answer.result c.hand-over-answer.new.network x' in
-    delivery_handed (K capacity) len c.args.faulty x place c.in-Ok.message c.hand-over-answer.result c.hand-over-answer.new.network x' was low taken.1
-    (subst P taken.3 c.hand-over-answer.ensures)
+    let P : Network → Type 0 = λ w. HandedOver (K w.capacity) w c.args.faulty x c.in-Ok.message c.hand_over-answer.result c.hand_over-answer.new.network x' in
+    delivery_handed (K capacity) len c.args.faulty x place c.in-Ok.message c.hand_over-answer.result c.hand_over-answer.new.network x' was low taken.1
+    (subst P taken.3 c.hand_over-answer.ensures)
 
 pub returns-in-Err : goal.returns-in-Err
 returns-in-Err g c =

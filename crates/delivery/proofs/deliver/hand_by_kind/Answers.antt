@@ -8,8 +8,8 @@ use Rattle.delivery.proofs.Limits.{limits, server_there, row_there, client_there
 use Rattle.delivery.proofs.Handing.{client_handed, server_handed}
 use Rattle.delivery.proofs.deliver.hand_by_kind.Goals as goal
 
-pub hand-to-client-requires : goal.hand-to-client-requires
-hand-to-client-requires g c =
+pub hand_to_client-requires : goal.hand_to_client-requires
+hand_to_client-requires g c =
     let n = g.Q.QuorumSystem.size c.args.system.now in
     let net = c.args.network.now in
     let sizes = sizes_of (lent c.args.servers.now c.args.clients.now c.args.listeners.now c.args.messages.now c.args.reports.now) in
@@ -20,19 +20,19 @@ hand-to-client-requires g c =
       fits = c.requires.fits;
     }
 
-pub returns-then-is-from-server : goal.returns-then-is-from-server
-returns-then-is-from-server g c place is =
+pub returns-then-is_from_server : goal.returns-then-is_from_server
+returns-then-is_from_server g c place is =
     let q = c.args.system.now in
     let net = c.args.network.now in
     let K = setting c.args.m net.capacity 4294967295 (rules (g.Q.QuorumSystem.size q) (g.Q.QuorumSystem.quorum q) (g.Q.QuorumSystem.fail_prone q) g.S.Timestamp.above g.row.V-Value.same) g.S.Timestamp.owner g.S.Timestamp.lowest g.S.Timestamp.successor g.row.V-Value.initial_value in
-    let comes : from_server c.args.kind ≡ true = sym c.if-is-from-server.ensures in
+    let comes : from_server c.args.kind ≡ true = sym c.if-is_from_server.ensures in
     client_handed K c.args.faulty c.args.servers.now c.args.clients.now c.args.listeners.now c.args.messages.now c.args.reports.now net c.args.message c.args.kind place
     c.requires.fits is refl c.requires.enough
-    c.hand-to-client.result c.hand-to-client.new.clients c.hand-to-client.new.reports c.hand-to-client.new.network c.hand-to-client.new.messages
-    comes c.requires.client c.requires.named (c.hand-to-client.ensures c.args.m place c.requires.client is)
+    c.hand_to_client.result c.hand_to_client.new.clients c.hand_to_client.new.reports c.hand_to_client.new.network c.hand_to_client.new.messages
+    comes c.requires.client c.requires.named (c.hand_to_client.ensures c.args.m place c.requires.client is)
 
-pub hand-to-server-requires : goal.hand-to-server-requires
-hand-to-server-requires g c =
+pub hand_to_server-requires : goal.hand_to_server-requires
+hand_to_server-requires g c =
     let n = g.Q.QuorumSystem.size c.args.system.now in
     let net = c.args.network.now in
     let sizes = sizes_of (lent c.args.servers.now c.args.clients.now c.args.listeners.now c.args.messages.now c.args.reports.now) in
@@ -53,9 +53,9 @@ returns g c place is =
     let ls = c.args.listeners.now in
     let memory = c.args.messages.now in
     let message = c.args.message in
-    let goes : from_server c.args.kind ≡ false = sym c.if-is-from-server.ensures in
+    let goes : from_server c.args.kind ≡ false = sym c.if-is_from_server.ensures in
     let P : Bool → Type 0 = λ f. ToServer g.S.Timestamp.above g.S.Timestamp.lowest g.row.V-Value.initial_value (g.Q.QuorumSystem.size q) c.args.m f ss ls net memory message place
-    c.hand-to-server.result c.hand-to-server.new.servers c.hand-to-server.new.listeners c.hand-to-server.new.network c.hand-to-server.new.messages in
+    c.hand_to_server.result c.hand_to_server.new.servers c.hand_to_server.new.listeners c.hand_to_server.new.network c.hand_to_server.new.messages in
     server_handed K c.args.faulty ss c.args.clients.now ls memory c.args.reports.now net message c.args.kind place c.requires.fits is refl c.requires.enough
-    c.hand-to-server.result c.hand-to-server.new.servers c.hand-to-server.new.listeners c.hand-to-server.new.network c.hand-to-server.new.messages
-    goes (subst P c.contains-is-faulty.ensures (c.hand-to-server.ensures (g.Q.QuorumSystem.size q) place c.requires.server is))
+    c.hand_to_server.result c.hand_to_server.new.servers c.hand_to_server.new.listeners c.hand_to_server.new.network c.hand_to_server.new.messages
+    goes (subst P c.contains-is_faulty.ensures (c.hand_to_server.ensures (g.Q.QuorumSystem.size q) place c.requires.server is))

@@ -12,8 +12,8 @@ use Rattle.delivery.proofs.Handing.{kept_handed}
 use Rattle.delivery.proofs.Delivering.{named_parts, taken_named, taken_unnamed}
 use Rattle.delivery.proofs.deliver.hand_over.Goals as goal
 
-pub hand-by-kind-requires : goal.hand-by-kind-requires
-hand-by-kind-requires g c =
+pub hand_by_kind-requires : goal.hand_by_kind-requires
+hand_by_kind-requires g c =
     let n = g.Q.QuorumSystem.size c.args.system.now in
     let is : kind_named n c.args.m c.args.message ≡ Some c.in-Some.kind = ap (λ k. kind_named k c.args.m c.args.message) (sym c.servers-n.ensures) ∙ sym c.in-Some.ensures in
     let there = named_parts n c.args.m c.args.message c.in-Some.kind is in
@@ -27,11 +27,11 @@ returns-in-Some g c place is =
     let message = c.args.message in
     let K = setting c.args.m net.capacity 4294967295 (rules n (g.Q.QuorumSystem.quorum q) (g.Q.QuorumSystem.fail_prone q) g.S.Timestamp.above g.row.V-Value.same) g.S.Timestamp.owner g.S.Timestamp.lowest g.S.Timestamp.successor g.row.V-Value.initial_value in
     let x = lent c.args.servers.now c.args.clients.now c.args.listeners.now c.args.messages.now c.args.reports.now in
-    let x' = lent c.hand-by-kind.new.servers c.hand-by-kind.new.clients c.hand-by-kind.new.listeners c.hand-by-kind.new.messages c.hand-by-kind.new.reports in
+    let x' = lent c.hand_by_kind.new.servers c.hand_by_kind.new.clients c.hand_by_kind.new.listeners c.hand_by_kind.new.messages c.hand_by_kind.new.reports in
     let known : kind_named n c.args.m message ≡ Some c.in-Some.kind = ap (λ k. kind_named k c.args.m message) (sym c.servers-n.ensures) ∙ sym c.in-Some.ensures in
-    let P : Reply g.row.S.Denot g.row.V.Denot → Type 0 = λ y. Handed K net.len c.args.faulty x message y c.hand-by-kind.result c.hand-by-kind.new.network.len x' in
+    let P : Reply g.row.S.Denot g.row.V.Denot → Type 0 = λ y. Handed K net.len c.args.faulty x message y c.hand_by_kind.result c.hand_by_kind.new.network.len x' in
     subst P (sym (taken_named K (state_in K net.len c.args.faulty x) (remove (take net.len c.args.messages.now) place) message c.in-Some.kind known))
-    (c.hand-by-kind.ensures place is)
+    (c.hand_by_kind.ensures place is)
 
 pub returns-in-None : goal.returns-in-None
 returns-in-None g c place is =

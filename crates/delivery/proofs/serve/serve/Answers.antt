@@ -9,19 +9,19 @@ use Rattle.delivery.specs.Parts.{Served}
 use Rattle.delivery.proofs.Serving.{served}
 use Rattle.delivery.proofs.serve.serve.Goals as goal
 
-pub overflow-mul-first : goal.overflow-mul-first
-overflow-mul-first g c = omega (arith, c.requires.row)
+pub overflow_mul-first : goal.overflow_mul-first
+overflow_mul-first g c = omega (arith, c.requires.row)
 
-pub overflow-add-first : goal.overflow-add-first
-overflow-add-first g c = omega (arith, c.requires.row)
+pub overflow_add-first : goal.overflow_add-first
+overflow_add-first g c = omega (arith, c.requires.row)
 
-pub offset-bounds-listeners-first : goal.offset-bounds-listeners-first
-offset-bounds-listeners-first g c =
+pub offset_bounds-listeners-first : goal.offset_bounds-listeners-first
+offset_bounds-listeners-first g c =
     let i : c.args.message.server * c.args.clients ≤ length c.args.listeners.now = omega (arith, c.requires.row) in
     search (rules, scaled_fits≤)
 
-pub slice-bounds-receive-end : goal.slice-bounds-receive-end
-slice-bounds-receive-end g c = omega (arith, c.requires.row)
+pub slice_bounds-receive-end : goal.slice_bounds-receive-end
+slice_bounds-receive-end g c = omega (arith, c.requires.row)
 
 pub returns : goal.returns
 returns g c n few =

@@ -6,7 +6,7 @@ use Rattle.reading.specs.Reports.{blank, view}
 use Rattle.reading.proofs.Gathered.{upto, upto_none, upto_with, upto_without, upto_all}
 use Rattle.reading.proofs.Views.{gone}
 use Rattle.reading.proofs.decide.backers.Goals as goal
-use Rattle.reading.proofs.decide.backers.Goals.{then-is-backer, else-is-backer}
+use Rattle.reading.proofs.decide.backers.Goals.{then-is_backer, else-is_backer}
 
 pub loop-server-init : goal.loop-server-init
 loop-server-init g c i =
@@ -18,11 +18,11 @@ loop-server-preserved g c i =
     let r = view g.S.Timestamp.above (blank g.S.Timestamp.lowest g.row.V-Value.initial_value) c.args.n c.args.part.now in
     let p : Set = backers g.row.V-Value.same r c.args.timestamp c.args.value in
     let few : c.loop-server.server < 16 = omega (arith, c.requires.few) in
-    elim c.if-is-backer.branch [
-      | then-is-backer w ↦
+    elim c.if-is_backer.branch [
+      | then-is_backer w ↦
           ap (λ m. members m i) w.set-is ∙ w.with-set.ensures i
-          ∙ upto_with p c.loop-server.server i (members c.loop-server.set i) few (sym w.if-is-backer.ensures) (c.loop-server.invariant i)
-      | else-is-backer w ↦ ap (λ m. members m i) w.set-is ∙ c.loop-server.invariant i ∙ upto_without p c.loop-server.server i (sym w.if-is-backer.ensures)
+          ∙ upto_with p c.loop-server.server i (members c.loop-server.set i) few (sym w.if-is_backer.ensures) (c.loop-server.invariant i)
+      | else-is_backer w ↦ ap (λ m. members m i) w.set-is ∙ c.loop-server.invariant i ∙ upto_without p c.loop-server.server i (sym w.if-is_backer.ensures)
     ]
 
 pub returns : goal.returns

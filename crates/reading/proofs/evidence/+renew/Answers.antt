@@ -6,31 +6,31 @@ use Rattle.reading.proofs.Cells.{cell_set}
 use Rattle.reading.proofs.Enters.{positive, row_of, place_of, renew_more, renew_none}
 use Rattle.reading.proofs.evidence.+renew.Goals as goal
 
-pub overflow-mul-width : goal.overflow-mul-width
-overflow-mul-width g t c =
+pub overflow_mul-width : goal.overflow_mul-width
+overflow_mul-width g t c =
     let few = mul-le c.args.n c.args.n 16 16 c.requires.room.few c.requires.room.few in
     search rules
 
-pub overflow-add-i : goal.overflow-add-i
-overflow-add-i g t c =
+pub overflow_add-i : goal.overflow_add-i
+overflow_add-i g t c =
     let few = mul-le c.args.n c.args.n 16 16 c.requires.room.few c.requires.room.few in
     let low = c.if-i-width.true in
     search rules
 
-pub nonzero-div-server : goal.nonzero-div-server
-nonzero-div-server g t c = positive c.args.n c.args.i c.if-i-width.true
+pub nonzero_div-server : goal.nonzero_div-server
+nonzero_div-server g t c = positive c.args.n c.args.i c.if-i-width.true
 
-pub nonzero-rem-slot : goal.nonzero-rem-slot
-nonzero-rem-slot g t c = positive c.args.n c.args.i c.if-i-width.true
+pub nonzero_rem-slot : goal.nonzero_rem-slot
+nonzero_rem-slot g t c = positive c.args.n c.args.i c.if-i-width.true
 
-pub overflow-cast-server : goal.overflow-cast-server
-overflow-cast-server g t c =
+pub overflow_cast-server : goal.overflow_cast-server
+overflow_cast-server g t c =
     let row = row_of c.args.n c.args.i c.if-i-width.true in
     let few = c.requires.room.few in
     search rules
 
-pub overflow-cast-slot : goal.overflow-cast-slot
-overflow-cast-slot g t c =
+pub overflow_cast-slot : goal.overflow_cast-slot
+overflow_cast-slot g t c =
     let column = place_of c.args.n c.args.i c.if-i-width.true in
     let few = c.requires.room.few in
     search rules

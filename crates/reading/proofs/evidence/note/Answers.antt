@@ -5,7 +5,7 @@ use Rattle.reading.proofs.Cells.{cell_set}
 use Rattle.reading.proofs.Views.{shown_same}
 use Rattle.reading.proofs.Notes.{note_fresh, note_yes, note_no, note_all}
 use Rattle.reading.proofs.evidence.note.Goals as goal
-use Rattle.reading.proofs.evidence.note.Goals.{then-is-watched, else-is-watched}
+use Rattle.reading.proofs.evidence.note.Goals.{then-is_watched, else-is_watched}
 
 pub loop-slot-preserved : goal.loop-slot-preserved
 loop-slot-preserved g c x k l =
@@ -20,11 +20,11 @@ loop-slot-preserved g c x k l =
     let room : Room n c.loop-slot.part = record { few = c.requires.room.few; long = omega (arith, c.requires.room.long) } in
     let at : cell d n c.loop-slot.part j j ≡ grid j j = c.loop-slot.invariant j j (omega arith) ∙ note_fresh above grid b s v j in
     let same : watches above (cell d n c.loop-slot.part) s j ≡ watches above grid s j = ap (λ r. r.present && level above s r.timestamp) at in
-    elim c.if-is-watched.branch [
-      | then-is-watched w ↦ ap (λ p. cell d n p x k) w.part-is ∙ ap (λ p. cell d n p x k) w.put.ensures ∙ cell_set d n c.loop-slot.part b j (reported s v) room c.requires.row (omega arith) x k l
-          ∙ note_yes above grid b s v j (cell d n c.loop-slot.part) x k (sym same ∙ sym w.if-is-watched.ensures) (c.loop-slot.invariant x k l)
-      | else-is-watched w ↦ ap (λ p. cell d n p x k) w.part-is ∙ c.loop-slot.invariant x k l
-          ∙ note_no above grid b s v j x k (sym same ∙ sym w.if-is-watched.ensures)
+    elim c.if-is_watched.branch [
+      | then-is_watched w ↦ ap (λ p. cell d n p x k) w.part-is ∙ ap (λ p. cell d n p x k) w.put.ensures ∙ cell_set d n c.loop-slot.part b j (reported s v) room c.requires.row (omega arith) x k l
+          ∙ note_yes above grid b s v j (cell d n c.loop-slot.part) x k (sym same ∙ sym w.if-is_watched.ensures) (c.loop-slot.invariant x k l)
+      | else-is_watched w ↦ ap (λ p. cell d n p x k) w.part-is ∙ c.loop-slot.invariant x k l
+          ∙ note_no above grid b s v j x k (sym same ∙ sym w.if-is_watched.ensures)
     ]
 
 pub returns : goal.returns

@@ -5,8 +5,8 @@ use Rattle.reading.specs.Reports.{blank, view}
 use Rattle.reading.proofs.Parts.{view_blank}
 use Rattle.reading.proofs.hear.forget.Goals as goal
 
-pub offset-bounds-part-report-index : goal.offset-bounds-part-report-index
-offset-bounds-part-report-index g c = scaled_Fits c.loop-report.report-index (length c.args.part.now) _ c.loop-report-test.true c.well-formed.0.1
+pub offset_bounds-part-report-index : goal.offset_bounds-part-report-index
+offset_bounds-part-report-index g c = scaled_Fits c.loop-report.report-index (length c.args.part.now) _ c.loop-report-test.true c.well-formed.0.1
 
 pub bounds-part-report-index : goal.bounds-part-report-index
 bounds-part-report-index g c = omega (arith, c.loop-report-test.true, c.loop-report.auto.part)

@@ -6,37 +6,37 @@ use Rattle.reading.specs.Hearing.{enough_memory}
 use Rattle.reading.proofs.Parts.{room_enough, server_enough, heard_whole}
 use Rattle.reading.proofs.hear.hear.Goals as goal
 
-pub returns-then-not-is-enough : goal.returns-then-not-is-enough
-returns-then-not-is-enough g c =
+pub returns-then-not-is_enough : goal.returns-then-not-is_enough
+returns-then-not-is_enough g c =
     let p = c.args.part.now in
     let b = c.args.server in
     let no : enough_memory (g.Q.QuorumSystem.size c.args.system.now) p b ≡ false =
-    ap (λ k. enough_memory k p b) (sym c.servers-n.ensures) ∙ sym c.if-not-is-enough.ensures in
+    ap (λ k. enough_memory k p b) (sym c.servers-n.ensures) ∙ sym c.if-not-is_enough.ensures in
     record { enough = λ e. absurd (both_ways (enough_memory (g.Q.QuorumSystem.size c.args.system.now) p b) no e); short = λ e. record { answer = refl; memory = refl } }
 
-pub slice-bounds-learn-end : goal.slice-bounds-learn-end
-slice-bounds-learn-end g c =
+pub slice_bounds-learn-end : goal.slice_bounds-learn-end
+slice_bounds-learn-end g c =
     let n = c.servers-n.result in
     let few : n ≤ 16 = subst (λ k. k ≤ 16) (sym c.servers-n.ensures) (g.met.Q.QuorumSystem.lawful c.args.system.now).few_servers in
-    let room = room_enough n c.args.part.now c.args.server few (sym c.if-not-is-enough.ensures) in
-    omega (arith, c.entries-for.ensures, room.long)
+    let room = room_enough n c.args.part.now c.args.server few (sym c.if-not-is_enough.ensures) in
+    omega (arith, c.entries_for.ensures, room.long)
 
-pub slice-bounds-learn-end-2 : goal.slice-bounds-learn-end-2
-slice-bounds-learn-end-2 g c =
+pub slice_bounds-learn-end-2 : goal.slice_bounds-learn-end-2
+slice_bounds-learn-end-2 g c =
     let n = c.servers-n.result in
     let few : n ≤ 16 = subst (λ k. k ≤ 16) (sym c.servers-n.ensures) (g.met.Q.QuorumSystem.lawful c.args.system.now).few_servers in
-    let room = room_enough n c.args.part.now c.args.server few (sym c.if-not-is-enough.ensures) in
-    sym (length-take-le c.entries-for.result c.args.part.now (omega (arith, c.entries-for.ensures, room.long)))
+    let room = room_enough n c.args.part.now c.args.server few (sym c.if-not-is_enough.ensures) in
+    sym (length-take-le c.entries_for.result c.args.part.now (omega (arith, c.entries_for.ensures, room.long)))
 
 pub learn-requires : goal.learn-requires
 learn-requires g c =
     let n = c.servers-n.result in
     let p = c.args.part.now in
     let few : n ≤ 16 = subst (λ k. k ≤ 16) (sym c.servers-n.ensures) (g.met.Q.QuorumSystem.lawful c.args.system.now).few_servers in
-    let yes : enough_memory n p c.args.server ≡ true = sym c.if-not-is-enough.ensures in
+    let yes : enough_memory n p c.args.server ≡ true = sym c.if-not-is_enough.ensures in
     let room = room_enough n p c.args.server few yes in
-    let long = length-take-le c.entries-for.result p (omega (arith, c.entries-for.ensures, room.long)) in
-    record { room = record { few = few; long = omega (arith, long, c.entries-for.ensures) }; row = server_enough n p c.args.server yes }
+    let long = length-take-le c.entries_for.result p (omega (arith, c.entries_for.ensures, room.long)) in
+    record { room = record { few = few; long = omega (arith, long, c.entries_for.ensures) }; row = server_enough n p c.args.server yes }
 
 pub returns : goal.returns
 returns g c =
@@ -48,13 +48,13 @@ returns g c =
     let z = g.Q.QuorumSystem.size q in
     let nz : n ≡ z = c.servers-n.ensures in
     let few : n ≤ 16 = subst (λ k. k ≤ 16) (sym nz) (g.met.Q.QuorumSystem.lawful q).few_servers in
-    let yes : enough_memory n p b ≡ true = sym c.if-not-is-enough.ensures in
+    let yes : enough_memory n p b ≡ true = sym c.if-not-is_enough.ensures in
     let room : Room n p = room_enough n p b few yes in
-    let was = length-take-le c.entries-for.result p (omega (arith, c.entries-for.ensures, room.long)) in
+    let was = length-take-le c.entries_for.result p (omega (arith, c.entries_for.ensures, room.long)) in
     record {
       enough = λ e.
-          heard_whole g.S.Timestamp.above g.row.V-Value.same (g.Q.QuorumSystem.quorum q) (g.Q.QuorumSystem.fail_prone q) d n z c.entries-for.result p c.learn.new.part b
-          c.args.timestamp c.args.value c.learn.result nz c.entries-for.ensures room (c.learn.auto.part ∙ was) c.learn.ensures.after
+          heard_whole g.S.Timestamp.above g.row.V-Value.same (g.Q.QuorumSystem.quorum q) (g.Q.QuorumSystem.fail_prone q) d n z c.entries_for.result p c.learn.new.part b
+          c.args.timestamp c.args.value c.learn.result nz c.entries_for.ensures room (c.learn.auto.part ∙ was) c.learn.ensures.after
           c.learn.ensures.answer;
       short = λ e. absurd (both_ways (enough_memory z p b) e (ap (λ k. enough_memory k p b) (sym nz) ∙ yes));
     }

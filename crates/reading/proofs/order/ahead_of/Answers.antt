@@ -7,7 +7,7 @@ use Rattle.reading.proofs.Gathered.{upto, upto_none, upto_with, upto_without, up
 use Rattle.std.proofs.lemmas.Bool.{and_left}
 use Rattle.reading.proofs.Views.{gone}
 use Rattle.reading.proofs.order.ahead_of.Goals as goal
-use Rattle.reading.proofs.order.ahead_of.Goals.{then-is-ahead, else-is-ahead}
+use Rattle.reading.proofs.order.ahead_of.Goals.{then-is_ahead, else-is_ahead}
 
 pub loop-other-init : goal.loop-other-init
 loop-other-init g c i =
@@ -19,11 +19,11 @@ loop-other-preserved g c i =
     let r = view g.S.Timestamp.above (blank g.S.Timestamp.lowest g.row.V-Value.initial_value) c.args.n c.args.part.now in
     let p : Set = ahead g.S.Timestamp.above r c.args.server in
     let few : c.loop-other.other < 16 = omega (arith, c.requires.few) in
-    elim c.if-is-ahead.branch [
-      | then-is-ahead w ↦
+    elim c.if-is_ahead.branch [
+      | then-is_ahead w ↦
           ap (λ m. members m i) w.set-is ∙ w.with-set.ensures i
-          ∙ upto_with p c.loop-other.other i (members c.loop-other.set i) few (sym w.if-is-ahead.ensures) (c.loop-other.invariant i)
-      | else-is-ahead w ↦ ap (λ m. members m i) w.set-is ∙ c.loop-other.invariant i ∙ upto_without p c.loop-other.other i (sym w.if-is-ahead.ensures)
+          ∙ upto_with p c.loop-other.other i (members c.loop-other.set i) few (sym w.if-is_ahead.ensures) (c.loop-other.invariant i)
+      | else-is_ahead w ↦ ap (λ m. members m i) w.set-is ∙ c.loop-other.invariant i ∙ upto_without p c.loop-other.other i (sym w.if-is_ahead.ensures)
     ]
 
 pub returns : goal.returns

@@ -7,7 +7,7 @@ use Rattle.reading.proofs.Gathered.{upto, upto_none, upto_with, upto_without, up
 use Rattle.std.proofs.lemmas.Bool.{and_left}
 use Rattle.reading.proofs.Views.{gone}
 use Rattle.reading.proofs.order.leaders.Goals as goal
-use Rattle.reading.proofs.order.leaders.Goals.{then-is-leader, else-is-leader}
+use Rattle.reading.proofs.order.leaders.Goals.{then-is_leader, else-is_leader}
 
 pub loop-server-init : goal.loop-server-init
 loop-server-init g c i =
@@ -23,11 +23,11 @@ loop-server-preserved g c i =
     let rule = rules c.args.n (g.Q.QuorumSystem.quorum q) (g.Q.QuorumSystem.fail_prone q) g.S.Timestamp.above g.row.V-Value.same in
     let p : Set = leads rule r in
     let few : c.loop-server.server < 16 = omega (arith, c.requires.few) in
-    elim c.if-is-leader.branch [
-      | then-is-leader w ↦
+    elim c.if-is_leader.branch [
+      | then-is_leader w ↦
           ap (λ m. members m i) w.set-is ∙ w.with-set.ensures i
-          ∙ upto_with p c.loop-server.server i (members c.loop-server.set i) few (sym w.if-is-leader.ensures) (c.loop-server.invariant i)
-      | else-is-leader w ↦ ap (λ m. members m i) w.set-is ∙ c.loop-server.invariant i ∙ upto_without p c.loop-server.server i (sym w.if-is-leader.ensures)
+          ∙ upto_with p c.loop-server.server i (members c.loop-server.set i) few (sym w.if-is_leader.ensures) (c.loop-server.invariant i)
+      | else-is_leader w ↦ ap (λ m. members m i) w.set-is ∙ c.loop-server.invariant i ∙ upto_without p c.loop-server.server i (sym w.if-is_leader.ensures)
     ]
 
 pub returns : goal.returns

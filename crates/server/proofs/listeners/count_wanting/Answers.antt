@@ -5,8 +5,8 @@ use Rattle.server.proofs.Passing.{wanting_more, wanting_few, listener_read}
 use Rattle.server.proofs.listeners.count_wanting.Goals as goal
 use Rattle.server.proofs.listeners.count_wanting.Goals.{then-wants, else-wants}
 
-pub overflow-add-count : goal.overflow-add-count
-overflow-add-count g c =
+pub overflow_add-count : goal.overflow_add-count
+overflow_add-count g c =
     let f = listener_in g.S.Timestamp.lowest c.args.listeners.now in
     let few = wanting_few g.S.Timestamp.above f c.args.timestamp c.loop-listener.listener-index in
     omega (arith, few, c.loop-listener.invariant)

@@ -10,5 +10,5 @@ returns-in-Store g c server =
     let initial = g.row.V-Value.initial_value in
     let row = c.args.listeners.now in
     let x = state_of lowest server row in
-    let counted : ◌≡◌ {A = ℕ} c.replies-to-store.result (length (on_store above lowest initial (length row) x c.args.message).sent) = c.replies-to-store.ensures server in
+    let counted : ◌≡◌ {A = ℕ} c.replies_to_store.result (length (on_store above lowest initial (length row) x c.args.message).sent) = c.replies_to_store.ensures server in
     counted ∙ ap (λ k. length (by_kind above lowest initial k (length row) x c.args.message).sent) (sym c.in-Store.is)

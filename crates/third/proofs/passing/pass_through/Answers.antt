@@ -3,5 +3,5 @@ use Rattle.third.proofs.passing.pass_through.Goals as goal
 
 pub returns-in-Ok : goal.returns-in-Ok
 returns-in-Ok g c =
-    passed_on c.args.network.now c.post.new.self c.take-out.new.network c.args.memory.now c.post.new.memory c.take-out.new.memory c.args.message c.take-out.result
-    c.in-Ok.ensures c.take-out.ensures
+    passed_on c.args.network.now c.post.new.self c.take_out.new.network c.args.memory.now c.post.new.memory c.take_out.new.memory c.args.message c.take_out.result
+    c.in-Ok.ensures c.take_out.ensures

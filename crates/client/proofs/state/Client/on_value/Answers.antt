@@ -10,7 +10,7 @@ returns-in-Ok g c =
     let K = setting 0 0 0 (rules (g.Q.QuorumSystem.size q) (g.Q.QuorumSystem.quorum q) (g.Q.QuorumSystem.fail_prone q) g.S.Timestamp.above g.row.V-Value.same) g.S.Timestamp.owner g.S.Timestamp.lowest g.S.Timestamp.successor g.row.V-Value.initial_value in
     let told = c.in-Ok.ensures in
     value_weighed K (blank g.S.Timestamp.lowest g.row.V-Value.initial_value) c.args.self.now c.args.message c.args.part.now c.args.room
-    c.hear-within.new.part c.decided.result c.in-Ok.found c.decided.ensures told.0 told.1
+    c.hear_within.new.part c.decided.result c.in-Ok.found c.decided.ensures told.0 told.1
 
 pub returns-in-Err : goal.returns-in-Err
 returns-in-Err g c =

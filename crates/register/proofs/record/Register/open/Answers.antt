@@ -5,31 +5,31 @@ use Rattle.register.proofs.record.Register.open.Goals as goal
 
 pub reset-requires : goal.reset-requires
 reset-requires g c =
-    let p = limits (g.Q.QuorumSystem.size c.args.system) c.args.m c.args.capacity 0 _ (sym c.if-not-goes-with.ensures) in
+    let p = limits (g.Q.QuorumSystem.size c.args.system) c.args.m c.args.capacity 0 _ (sym c.if-not-goes_with.ensures) in
     omega (arith, p.for_servers, c.servers-n.ensures)
 
 pub reset-requires-2 : goal.reset-requires-2
 reset-requires-2 g c =
-    let p = limits (g.Q.QuorumSystem.size c.args.system) c.args.m c.args.capacity 0 _ (sym c.if-not-goes-with.ensures) in
+    let p = limits (g.Q.QuorumSystem.size c.args.system) c.args.m c.args.capacity 0 _ (sym c.if-not-goes_with.ensures) in
     p.for_clients
 
-pub listener-count-requires : goal.listener-count-requires
-listener-count-requires g c =
-    let p = limits (g.Q.QuorumSystem.size c.args.system) c.args.m c.args.capacity 0 _ (sym c.if-not-goes-with.ensures) in
+pub listener_count-requires : goal.listener_count-requires
+listener_count-requires g c =
+    let p = limits (g.Q.QuorumSystem.size c.args.system) c.args.m c.args.capacity 0 _ (sym c.if-not-goes_with.ensures) in
     p.few
 
 pub reset-requires-3 : goal.reset-requires-3
 reset-requires-3 g c =
     let n = g.Q.QuorumSystem.size c.args.system in
-    let p = limits n c.args.m c.args.capacity 0 _ (sym c.if-not-goes-with.ensures) in
-    let e : c.listener-count.result ≡ n * c.args.m = c.listener-count.ensures ∙ ap (λ k. k * c.args.m) c.servers-n.ensures in
+    let p = limits n c.args.m c.args.capacity 0 _ (sym c.if-not-goes_with.ensures) in
+    let e : c.listener_count.result ≡ n * c.args.m = c.listener_count.ensures ∙ ap (λ k. k * c.args.m) c.servers-n.ensures in
     omega (arith, p.for_listeners, e)
 
 pub returns : goal.returns
 returns g c =
     let n = g.Q.QuorumSystem.size c.args.system in
-    let e : c.listener-count.result ≡ n * c.args.m = c.listener-count.ensures ∙ ap (λ k. k * c.args.m) c.servers-n.ensures in
-    opened_with _ _ _ (sym c.if-not-goes-with.ensures) _ _ _ _ refl refl refl refl c.empty.ensures.mask c.empty.ensures.members
+    let e : c.listener_count.result ≡ n * c.args.m = c.listener_count.ensures ∙ ap (λ k. k * c.args.m) c.servers-n.ensures in
+    opened_with _ _ _ (sym c.if-not-goes_with.ensures) _ _ _ _ refl refl refl refl c.empty.ensures.mask c.empty.ensures.members
     (c.reset.ensures ∙ ap₂ (λ k v. replicate k v ++ drop k c.args.servers.now) c.servers-n.ensures c.initial.ensures)
     (c.reset-2.ensures ∙ ap (λ v. replicate c.args.m v ++ drop c.args.m c.args.clients.now) c.initial-2.ensures)
     (c.reset-3.ensures ∙ ap₂ (λ k v. replicate k v ++ drop k c.args.listeners.now) e c.silent.ensures)

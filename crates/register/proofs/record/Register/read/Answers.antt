@@ -12,14 +12,14 @@ use Rattle.register.proofs.Begins.{client_missing, begin_refused, begin_room, be
 use Rattle.register.proofs.ReadBegins.{read_refused, read_begun}
 use Rattle.register.proofs.record.Register.read.Goals as goal
 
-pub returns-then-not-goes-with : goal.returns-then-not-goes-with
-returns-then-not-goes-with g c = read_refused _ _ _ _ _ (short _ _ _ _ (sym c.if-not-goes-with.ensures))
+pub returns-then-not-goes_with : goal.returns-then-not-goes_with
+returns-then-not-goes_with g c = read_refused _ _ _ _ _ (short _ _ _ _ (sym c.if-not-goes_with.ensures))
 
 pub returns-then-client-self : goal.returns-then-client-self
-returns-then-client-self g c = read_refused _ _ _ _ _ (client_missing _ _ _ (sym c.if-not-goes-with.ensures) refl c.args.client c.if-client-self.true _)
+returns-then-client-self g c = read_refused _ _ _ _ _ (client_missing _ _ _ (sym c.if-not-goes_with.ensures) refl c.args.client c.if-client-self.true _)
 
-pub begin-read-at-requires : goal.begin-read-at-requires
-begin-read-at-requires g c =
+pub begin_read_at-requires : goal.begin_read_at-requires
+begin_read_at-requires g c =
     let h = c.args.self.now in
     let q = h.system in
     let n = g.Q.QuorumSystem.size q in
@@ -28,7 +28,7 @@ begin-read-at-requires g c =
     let ps = c.args.reports.now in
     let x = lent c.args.servers.now cs c.args.listeners.now c.args.messages.now ps in
     let u = c.args.client in
-    let much = sym c.if-not-goes-with.ensures in
+    let much = sym c.if-not-goes_with.ensures in
     let p = parts K h.len x much in
     let ends : u * (n * (n + 1)) + n * (n + 1) ≤ length ps = (let e = part_end u h.clients (n * (n + 1)) c.if-client-self.false in omega (arith, e, p.for_reports)) in
     record { client = omega (arith, p.for_clients, c.if-client-self.false); part = ends }
@@ -43,7 +43,7 @@ send-requires g c =
     let ps = c.args.reports.now in
     let x = lent c.args.servers.now cs c.args.listeners.now c.args.messages.now ps in
     let u = c.args.client in
-    let much = sym c.if-not-goes-with.ensures in
+    let much = sym c.if-not-goes_with.ensures in
     let p = parts K h.len x much in
     let b = c.in-Ok.ensures h.clients h.capacity 4294967295 c.if-client-self.false in
     let was = clients_in K h.clients cs ps u in
@@ -59,13 +59,13 @@ returns-in-Ok g c =
     let ps = c.args.reports.now in
     let x = lent c.args.servers.now cs c.args.listeners.now c.args.messages.now ps in
     let u = c.args.client in
-    let much = sym c.if-not-goes-with.ensures in
+    let much = sym c.if-not-goes_with.ensures in
     let p = parts K h.len x much in
     let b = c.in-Ok.ensures h.clients h.capacity 4294967295 c.if-client-self.false in
     let was = clients_in K h.clients cs ps u in
-    read_begun _ _ _ _ _ _ _ (begun K h x much refl u c.if-client-self.false (begins_read K u was) c.begin-read-at.new.clients c.begin-read-at.new.reports _ refl (ap (client_refuses K was) (sym c.room.ensures) ∙ b.0.0)
-    c.in-Ok.given b.0.1 c.send.new.self c.send.new.messages refl c.send.ensures.record c.send.ensures.sent c.begin-read-at.auto.clients c.begin-read-at.auto.reports
-    (blank_rest K u ps c.begin-read-at.new.reports c.if-client-self.false b.1)) b.1
+    read_begun _ _ _ _ _ _ _ (begun K h x much refl u c.if-client-self.false (begins_read K u was) c.begin_read_at.new.clients c.begin_read_at.new.reports _ refl (ap (client_refuses K was) (sym c.room.ensures) ∙ b.0.0)
+    c.in-Ok.given b.0.1 c.send.new.self c.send.new.messages refl c.send.ensures.record c.send.ensures.sent c.begin_read_at.auto.clients c.begin_read_at.auto.reports
+    (blank_rest K u ps c.begin_read_at.new.reports c.if-client-self.false b.1)) b.1
 
 pub returns-in-Err : goal.returns-in-Err
 returns-in-Err g c =
@@ -77,8 +77,8 @@ returns-in-Err g c =
     let ps = c.args.reports.now in
     let x = lent c.args.servers.now cs c.args.listeners.now c.args.messages.now ps in
     let u = c.args.client in
-    let much = sym c.if-not-goes-with.ensures in
+    let much = sym c.if-not-goes_with.ensures in
     let p = parts K h.len x much in
     let b = c.in-Err.ensures h.clients h.capacity 4294967295 c.if-client-self.false in
     let was = clients_in K h.clients cs ps u in
-    read_refused _ _ _ _ _ (begin_refused K h x much refl u c.if-client-self.false (begins_read K u was) c.begin-read-at.new.clients c.begin-read-at.new.reports c.in-Err.refusal (ap (client_refuses K was) (sym c.room.ensures) ∙ b.0.0) b.0.1 b.0.2)
+    read_refused _ _ _ _ _ (begin_refused K h x much refl u c.if-client-self.false (begins_read K u was) c.begin_read_at.new.clients c.begin_read_at.new.reports c.in-Err.refusal (ap (client_refuses K was) (sym c.room.ensures) ∙ b.0.0) b.0.1 b.0.2)

@@ -11,14 +11,14 @@ use Rattle.register.proofs.Replies.{short}
 use Rattle.register.proofs.Begins.{client_missing, begin_refused, begin_room, begun}
 use Rattle.register.proofs.record.Register.write.Goals as goal
 
-pub returns-then-not-goes-with : goal.returns-then-not-goes-with
-returns-then-not-goes-with g c = short _ _ _ _ (sym c.if-not-goes-with.ensures)
+pub returns-then-not-goes_with : goal.returns-then-not-goes_with
+returns-then-not-goes_with g c = short _ _ _ _ (sym c.if-not-goes_with.ensures)
 
 pub returns-then-client-self : goal.returns-then-client-self
-returns-then-client-self g c = client_missing _ _ _ (sym c.if-not-goes-with.ensures) refl c.args.client c.if-client-self.true _
+returns-then-client-self g c = client_missing _ _ _ (sym c.if-not-goes_with.ensures) refl c.args.client c.if-client-self.true _
 
-pub begin-write-at-requires : goal.begin-write-at-requires
-begin-write-at-requires g c =
+pub begin_write_at-requires : goal.begin_write_at-requires
+begin_write_at-requires g c =
     let h = c.args.self.now in
     let q = h.system in
     let n = g.Q.QuorumSystem.size q in
@@ -27,7 +27,7 @@ begin-write-at-requires g c =
     let ps = c.args.reports.now in
     let x = lent c.args.servers.now cs c.args.listeners.now c.args.messages.now ps in
     let u = c.args.client in
-    let much = sym c.if-not-goes-with.ensures in
+    let much = sym c.if-not-goes_with.ensures in
     let p = parts K h.len x much in
     omega (arith, p.for_clients, c.if-client-self.false)
 
@@ -41,7 +41,7 @@ send-requires g c =
     let ps = c.args.reports.now in
     let x = lent c.args.servers.now cs c.args.listeners.now c.args.messages.now ps in
     let u = c.args.client in
-    let much = sym c.if-not-goes-with.ensures in
+    let much = sym c.if-not-goes_with.ensures in
     let p = parts K h.len x much in
     let ends : u * (n * (n + 1)) + n * (n + 1) ≤ length ps = (let e = part_end u h.clients (n * (n + 1)) c.if-client-self.false in omega (arith, e, p.for_reports)) in
     let b = c.in-Ok.ensures h.clients h.capacity 4294967295 ps c.if-client-self.false ends in
@@ -58,13 +58,13 @@ returns-in-Ok g c =
     let ps = c.args.reports.now in
     let x = lent c.args.servers.now cs c.args.listeners.now c.args.messages.now ps in
     let u = c.args.client in
-    let much = sym c.if-not-goes-with.ensures in
+    let much = sym c.if-not-goes_with.ensures in
     let p = parts K h.len x much in
     let ends : u * (n * (n + 1)) + n * (n + 1) ≤ length ps = (let e = part_end u h.clients (n * (n + 1)) c.if-client-self.false in omega (arith, e, p.for_reports)) in
     let b = c.in-Ok.ensures h.clients h.capacity 4294967295 ps c.if-client-self.false ends in
     let was = clients_in K h.clients cs ps u in
-    begun K h x much refl u c.if-client-self.false (begins_write K u was c.args.value) c.begin-write-at.new.clients ps _ refl (ap (client_refuses K was) (sym c.room.ensures) ∙ b.0)
-    c.in-Ok.given b.1 c.send.new.self c.send.new.messages refl c.send.ensures.record c.send.ensures.sent c.begin-write-at.auto.clients refl refl
+    begun K h x much refl u c.if-client-self.false (begins_write K u was c.args.value) c.begin_write_at.new.clients ps _ refl (ap (client_refuses K was) (sym c.room.ensures) ∙ b.0)
+    c.in-Ok.given b.1 c.send.new.self c.send.new.messages refl c.send.ensures.record c.send.ensures.sent c.begin_write_at.auto.clients refl refl
 
 pub returns-in-Err : goal.returns-in-Err
 returns-in-Err g c =
@@ -76,9 +76,9 @@ returns-in-Err g c =
     let ps = c.args.reports.now in
     let x = lent c.args.servers.now cs c.args.listeners.now c.args.messages.now ps in
     let u = c.args.client in
-    let much = sym c.if-not-goes-with.ensures in
+    let much = sym c.if-not-goes_with.ensures in
     let p = parts K h.len x much in
     let ends : u * (n * (n + 1)) + n * (n + 1) ≤ length ps = (let e = part_end u h.clients (n * (n + 1)) c.if-client-self.false in omega (arith, e, p.for_reports)) in
     let b = c.in-Err.ensures h.clients h.capacity 4294967295 ps c.if-client-self.false ends in
     let was = clients_in K h.clients cs ps u in
-    begin_refused K h x much refl u c.if-client-self.false (begins_write K u was c.args.value) c.begin-write-at.new.clients ps c.in-Err.refusal (ap (client_refuses K was) (sym c.room.ensures) ∙ b.0) b.1 refl
+    begin_refused K h x much refl u c.if-client-self.false (begins_write K u was c.args.value) c.begin_write_at.new.clients ps c.in-Err.refusal (ap (client_refuses K was) (sym c.room.ensures) ∙ b.0) b.1 refl

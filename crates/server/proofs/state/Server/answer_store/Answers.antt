@@ -11,8 +11,8 @@ use Rattle.server.proofs.state.Server.answer_store.Goals as goal
 pub send-requires : goal.send-requires
 send-requires g c = room_fewer c.args.network.now (length c.args.memory.now) _ 1 (omega arith) c.requires.room
 
-pub pass-on-requires : goal.pass-on-requires
-pass-on-requires g c =
+pub pass_on-requires : goal.pass_on-requires
+pass_on-requires g c =
     let row = c.args.listeners.now in
     let f = listener_in g.S.Timestamp.lowest row in
     let count = passed_count g.S.Timestamp.above c.args.message f (length row) in
@@ -26,11 +26,11 @@ pub returns : goal.returns
 returns g c =
     let row = c.args.listeners.now in
     let on = passed_on g.S.Timestamp.above c.args.message (listener_in g.S.Timestamp.lowest row) (length row) in
-    let P : Message g.row.S.Denot g.row.V.Denot → Type 0 = λ m. Sent c.args.network.now c.args.memory.now (m ∷ on) c.pass-on.new.network c.pass-on.new.memory in
+    let P : Message g.row.S.Denot g.row.V.Denot → Type 0 = λ m. Sent c.args.network.now c.args.memory.now (m ∷ on) c.pass_on.new.network c.pass_on.new.memory in
     record {
       state_after = c.hold.ensures row;
       sent_after =
           subst P (c.reply.ensures ∙ ap (reply c.args.message Ack c.args.message.timestamp) c.initial.ensures)
-          (sent_then c.args.network.now c.send.new.network c.pass-on.new.network c.args.memory.now c.send.new.memory c.pass-on.new.memory
-          (c.reply.result ∷ []) on c.send.ensures c.pass-on.ensures);
+          (sent_then c.args.network.now c.send.new.network c.pass_on.new.network c.args.memory.now c.send.new.memory c.pass_on.new.memory
+          (c.reply.result ∷ []) on c.send.ensures c.pass_on.ensures);
     }

@@ -11,7 +11,7 @@ returns-in-Some c =
     let a = c.args.a in
     let b = c.args.b in
     let s = c.new.result in
-    let found = next_found client c.higher-of.result.number c.in-Some.number c.in-Some.ensures in
+    let found = next_found client c.higher_of.result.number c.in-Some.number c.in-Some.ensures in
     let e : s.number ≡ (higher version_above a b).number + 1 =
-    c.new.ensures ∙ found.1 ∙ ap (λ (t : Version). t.number + 1) c.higher-of.ensures in
+    c.new.ensures ∙ found.1 ∙ ap (λ (t : Version). t.number + 1) c.higher_of.ensures in
     record { exact = sym (version_next client a b s found.0 e); least = lowest_some client a b s found.0 e }
