@@ -1,5 +1,6 @@
 // Worked cases of the rules, stated over the definitions that the contracts cite.
 #![tactic(auto)]
+
 ghost use Rattle.std.specs.Prelude.{◌≡◌};
 ghost use Rattle.cases.specs.Worked.{Cases};
 

@@ -23,7 +23,7 @@ pub const MOST_OPERATIONS: u32 = 4_294_967_295;
 impl<S: Timestamp, V: Value> Client<S, V> {
     // A client at first.
     pub fn initial() -> Client<S, V>
-        ensures { result ≡ record { number = 0; last = lowest; phase = Idle } }
+        ensures { result ≡ record { number = 0; last = S.lowest; phase = Idle } }
     {
         Client {
             number: 0,
@@ -46,7 +46,7 @@ impl<S: Timestamp, V: Value> Client<S, V> {
 
     // Why no operation may begin, if it may not.
     fn refuses<Q: QuorumSystem>(&self, system: &Q, room: usize) -> Option<Refusal>
-        ensures { result ≡ begin_refusal (setting 0 0 0 (rules (size system.now) (quorum system.now) (fail_prone system.now) above same) owner lowest successor initial_value) (blank lowest initial_value) self.now room }
+        ensures { result ≡ begin_refusal (setting 0 0 0 (rules (Q.size system.now) (Q.quorum system.now) (Q.fail_prone system.now) S.above V.same) S.owner S.lowest S.successor V.initial_value) (blank S.lowest V.initial_value) self.now room }
     {
         if !self.rests() {
             return Some(Refusal::OperationOpen);
@@ -69,7 +69,7 @@ impl<S: Timestamp, V: Value> Client<S, V> {
         kind: Kind,
     ) -> Outcome<S, V>
         requires { self.now.number < 4294967295 }
-        ensures { (known : _) → outcome_of (size system.now) client result known ≡ begins (setting 0 0 0 (rules (size system.now) (quorum system.now) (fail_prone system.now) above same) owner lowest successor initial_value) client (client_of self.now known) (phase_of phase known) kind }
+        ensures { (known : _) → outcome_of (Q.size system.now) client result known ≡ begins (setting 0 0 0 (rules (Q.size system.now) (Q.quorum system.now) (Q.fail_prone system.now) S.above V.same) S.owner S.lowest S.successor V.initial_value) client (client_of self.now known) (phase_of phase known) kind }
     {
         let number = self.number + 1;
         Outcome {
@@ -97,8 +97,8 @@ impl<S: Timestamp, V: Value> Client<S, V> {
         kind: Kind,
     ) -> Outcome<S, V>
         requires { self.now.number < 4294967295 }
-        ensures begun { outcome_of (size system.now) client result (view above (blank lowest initial_value) (size system.now) part.new) ≡ begins (setting 0 0 0 (rules (size system.now) (quorum system.now) (fail_prone system.now) above same) owner lowest successor initial_value) client (client_of self.now (view above (blank lowest initial_value) (size system.now) part.old)) (reading (unread lowest initial_value)) kind }
-        ensures memory { part.new ≡ replicate (length part.old) (blank lowest initial_value) }
+        ensures begun { outcome_of (Q.size system.now) client result (view S.above (blank S.lowest V.initial_value) (Q.size system.now) part.new) ≡ begins (setting 0 0 0 (rules (Q.size system.now) (Q.quorum system.now) (Q.fail_prone system.now) S.above V.same) S.owner S.lowest S.successor V.initial_value) client (client_of self.now (view S.above (blank S.lowest V.initial_value) (Q.size system.now) part.old)) (reading (unread S.lowest V.initial_value)) kind }
+        ensures memory { part.new ≡ replicate (length part.old) (blank S.lowest V.initial_value) }
     {
         forget(part);
         self.begun(system, client, Phase::Reading, kind)
@@ -112,7 +112,7 @@ impl<S: Timestamp, V: Value> Client<S, V> {
         value: V,
         room: usize,
     ) -> Result<(Answer<S, V>, Dispatch<S, V>), Refusal>
-        ensures { BegunWrite (setting 0 0 0 (rules (size system.now) (quorum system.now) (fail_prone system.now) above same) owner lowest successor initial_value) (blank lowest initial_value) self.old client value room result self.new }
+        ensures { BegunWrite (setting 0 0 0 (rules (Q.size system.now) (Q.quorum system.now) (Q.fail_prone system.now) S.above V.same) S.owner S.lowest S.successor V.initial_value) (blank S.lowest V.initial_value) self.old client value room result self.new }
     {
         if let Some(refusal) = self.refuses(system, room) {
             return Err(refusal);
@@ -135,7 +135,7 @@ impl<S: Timestamp, V: Value> Client<S, V> {
         client: u8,
         room: usize,
     ) -> Result<(Answer<S, V>, Dispatch<S, V>), Refusal>
-        ensures { BegunRead (setting 0 0 0 (rules (size system.now) (quorum system.now) (fail_prone system.now) above same) owner lowest successor initial_value) (blank lowest initial_value) self.old part.old client room result self.new part.new }
+        ensures { BegunRead (setting 0 0 0 (rules (Q.size system.now) (Q.quorum system.now) (Q.fail_prone system.now) S.above V.same) S.owner S.lowest S.successor V.initial_value) (blank S.lowest V.initial_value) self.old part.old client room result self.new part.new }
     {
         if let Some(refusal) = self.refuses(system, room) {
             return Err(refusal);

@@ -25,7 +25,7 @@ impl<S: Timestamp, V: Value> Client<S, V> {
         client: u8,
         found: Option<(S, V)>,
     ) -> Outcome<S, V>
-        ensures { (known : _) → outcome_of (size system.now) client result known ≡ decided (setting 0 0 0 (rules (size system.now) (quorum system.now) (fail_prone system.now) above same) owner lowest successor initial_value) client (client_of self.now known) known found }
+        ensures { (known : _) → outcome_of (Q.size system.now) client result known ≡ decided (setting 0 0 0 (rules (Q.size system.now) (Q.quorum system.now) (Q.fail_prone system.now) S.above V.same) S.owner S.lowest S.successor V.initial_value) client (client_of self.now known) known found }
     {
         match found {
             Some((timestamp, value)) => Outcome {
@@ -59,8 +59,8 @@ impl<S: Timestamp, V: Value> Client<S, V> {
         message: Message<S, V>,
         room: usize,
     ) -> Result<Outcome<S, V>, Refusal>
-        requires { enough_memory (size system.now) part.old message.server ≡ true }
-        ensures { Weighs (setting 0 0 0 (rules (size system.now) (quorum system.now) (fail_prone system.now) above same) owner lowest successor initial_value) (blank lowest initial_value) part.old message (on_value (setting 0 0 0 (rules (size system.now) (quorum system.now) (fail_prone system.now) above same) owner lowest successor initial_value) (client_of self.now (view above (blank lowest initial_value) (size system.now) part.old)) message (reading (view above (blank lowest initial_value) (size system.now) part.old))) room result part.new }
+        requires { enough_memory (Q.size system.now) part.old message.server ≡ true }
+        ensures { Weighs (setting 0 0 0 (rules (Q.size system.now) (Q.quorum system.now) (Q.fail_prone system.now) S.above V.same) S.owner S.lowest S.successor V.initial_value) (blank S.lowest V.initial_value) part.old message (on_value (setting 0 0 0 (rules (Q.size system.now) (Q.quorum system.now) (Q.fail_prone system.now) S.above V.same) S.owner S.lowest S.successor V.initial_value) (client_of self.now (view S.above (blank S.lowest V.initial_value) (Q.size system.now) part.old)) message (reading (view S.above (blank S.lowest V.initial_value) (Q.size system.now) part.old))) room result part.new }
     {
         match hear_within(system, part, message, room) {
             Ok(found) => Ok(self.decided(system, message.client, found)),
@@ -77,7 +77,7 @@ fn try_value<Q: QuorumSystem, S: Timestamp, V: Value>(
     message: Message<S, V>,
     i: usize,
 ) -> Option<(S, V)>
-    ensures { Tried (rules (size system.now) (quorum system.now) (fail_prone system.now) above same) (blank lowest initial_value) i part.old message.server message.timestamp message.value result part.new }
+    ensures { Tried (rules (Q.size system.now) (Q.quorum system.now) (Q.fail_prone system.now) S.above V.same) (blank S.lowest V.initial_value) i part.old message.server message.timestamp message.value result part.new }
 {
     if i >= part.len() {
         return hear(
@@ -103,8 +103,8 @@ fn hear_within<Q: QuorumSystem, S: Timestamp, V: Value>(
     message: Message<S, V>,
     room: usize,
 ) -> Result<Option<(S, V)>, Refusal>
-    requires { enough_memory (size system.now) part.old message.server ≡ true }
-    ensures { Within (rules (size system.now) (quorum system.now) (fail_prone system.now) above same) (blank lowest initial_value) room part.old message.server message.timestamp message.value result part.new }
+    requires { enough_memory (Q.size system.now) part.old message.server ≡ true }
+    ensures { Within (rules (Q.size system.now) (Q.quorum system.now) (Q.fail_prone system.now) S.above V.same) (blank S.lowest V.initial_value) room part.old message.server message.timestamp message.value result part.new }
 {
     if room >= system.servers() as usize {
         return Ok(hear(

@@ -57,8 +57,8 @@ impl<S: Timestamp, V: Value> Client<S, V> {
         kind: Kind,
         room: usize,
     ) -> Result<Outcome<S, V>, Refusal>
-        requires { enough_memory (size system.now) part.old message.server ≡ true }
-        ensures weighed { Weighs (setting 0 0 0 (rules (size system.now) (quorum system.now) (fail_prone system.now) above same) owner lowest successor initial_value) (blank lowest initial_value) part.old message (awaited (setting 0 0 0 (rules (size system.now) (quorum system.now) (fail_prone system.now) above same) owner lowest successor initial_value) kind (client_of self.now (view above (blank lowest initial_value) (size system.now) part.old)) message) room result part.new }
+        requires { enough_memory (Q.size system.now) part.old message.server ≡ true }
+        ensures weighed { Weighs (setting 0 0 0 (rules (Q.size system.now) (Q.quorum system.now) (Q.fail_prone system.now) S.above V.same) S.owner S.lowest S.successor V.initial_value) (blank S.lowest V.initial_value) part.old message (awaited (setting 0 0 0 (rules (Q.size system.now) (Q.quorum system.now) (Q.fail_prone system.now) S.above V.same) S.owner S.lowest S.successor V.initial_value) kind (client_of self.now (view S.above (blank S.lowest V.initial_value) (Q.size system.now) part.old)) message) room result part.new }
         ensures unheard { (is_reading self.now.phase && is_value kind) ≡ false → part.new ≡ part.old }
     {
         match (&self.phase, kind) {
@@ -100,7 +100,7 @@ impl<S: Timestamp, V: Value> Client<S, V> {
         kind: Kind,
         room: usize,
     ) -> Result<(Answer<S, V>, Dispatch<S, V>), Refusal>
-        ensures taken { TakenIn (setting 0 0 0 (rules (size system.now) (quorum system.now) (fail_prone system.now) above same) owner lowest successor initial_value) (blank lowest initial_value) self.old part.old message kind room result self.new part.new }
+        ensures taken { TakenIn (setting 0 0 0 (rules (Q.size system.now) (Q.quorum system.now) (Q.fail_prone system.now) S.above V.same) S.owner S.lowest S.successor V.initial_value) (blank S.lowest V.initial_value) self.old part.old message kind room result self.new part.new }
         ensures unheard { hears_value self.old message kind ≡ false → part.new ≡ part.old }
     {
         if !is_enough(part.len(), system.servers(), message.server) {

@@ -19,7 +19,7 @@ use values::Value;
 
 // The higher of two timestamps; of equals, the first.
 fn higher_of<S: Timestamp>(a: S, b: S) -> S
-    ensures { result ≡ higher above a b }
+    ensures { result ≡ higher S.above a b }
 {
     if b.is_above(a) { b } else { a }
 }
@@ -34,7 +34,7 @@ fn counted(set: ServerSet, server: u8) -> ServerSet
 
 // Whether two timestamps are equal: neither is above the other.
 fn is_level<S: Timestamp>(a: S, b: S) -> bool
-    ensures { result ≡ level above a b }
+    ensures { result ≡ level S.above a b }
 {
     !a.is_above(b) && !b.is_above(a)
 }
@@ -70,7 +70,7 @@ impl<S: Timestamp, V: Value> Client<S, V> {
         value: V,
         next: Option<S>,
     ) -> Outcome<S, V>
-        ensures { (known : _) → outcome_of (size system.now) client result known ≡ chosen (setting 0 0 0 (rules (size system.now) (quorum system.now) (fail_prone system.now) above same) owner lowest successor initial_value) client (client_of self.now known) value next }
+        ensures { (known : _) → outcome_of (Q.size system.now) client result known ≡ chosen (setting 0 0 0 (rules (Q.size system.now) (Q.quorum system.now) (Q.fail_prone system.now) S.above V.same) S.owner S.lowest S.successor V.initial_value) client (client_of self.now known) value next }
     {
         match next {
             Some(timestamp) => Outcome {
@@ -115,7 +115,7 @@ impl<S: Timestamp, V: Value> Client<S, V> {
         told: ServerSet,
         highest: S,
     ) -> Outcome<S, V>
-        ensures { (known : _) → outcome_of (size system.now) client result known ≡ asked (setting 0 0 0 (rules (size system.now) (quorum system.now) (fail_prone system.now) above same) owner lowest successor initial_value) client (client_of self.now known) value (members told) highest }
+        ensures { (known : _) → outcome_of (Q.size system.now) client result known ≡ asked (setting 0 0 0 (rules (Q.size system.now) (Q.quorum system.now) (Q.fail_prone system.now) S.above V.same) S.owner S.lowest S.successor V.initial_value) client (client_of self.now known) value (members told) highest }
     {
         if !system.is_quorum(told) {
             return self.taken_in(Phase::Asking {
@@ -136,7 +136,7 @@ impl<S: Timestamp, V: Value> Client<S, V> {
         value: V,
         acknowledged: ServerSet,
     ) -> Outcome<S, V>
-        ensures { (known : _) → outcome_of (size system.now) client result known ≡ stored (setting 0 0 0 (rules (size system.now) (quorum system.now) (fail_prone system.now) above same) owner lowest successor initial_value) client (client_of self.now known) timestamp value (members acknowledged) }
+        ensures { (known : _) → outcome_of (Q.size system.now) client result known ≡ stored (setting 0 0 0 (rules (Q.size system.now) (Q.quorum system.now) (Q.fail_prone system.now) S.above V.same) S.owner S.lowest S.successor V.initial_value) client (client_of self.now known) timestamp value (members acknowledged) }
     {
         if !system.is_quorum(acknowledged) {
             return self.taken_in(Phase::Storing {
@@ -170,7 +170,7 @@ impl<S: Timestamp, V: Value> Client<S, V> {
         highest: S,
     ) -> Outcome<S, V>
         requires { message.server < 16 }
-        ensures { (known : _) → outcome_of (size system.now) message.client result known ≡ on_ts (setting 0 0 0 (rules (size system.now) (quorum system.now) (fail_prone system.now) above same) owner lowest successor initial_value) (client_of self.now known) message (asking value (members told) highest) }
+        ensures { (known : _) → outcome_of (Q.size system.now) message.client result known ≡ on_ts (setting 0 0 0 (rules (Q.size system.now) (Q.quorum system.now) (Q.fail_prone system.now) S.above V.same) S.owner S.lowest S.successor V.initial_value) (client_of self.now known) message (asking value (members told) highest) }
     {
         if told.contains(message.server) {
             return self.unchanged();
@@ -194,7 +194,7 @@ impl<S: Timestamp, V: Value> Client<S, V> {
         acknowledged: ServerSet,
     ) -> Outcome<S, V>
         requires { message.server < 16 }
-        ensures { (known : _) → outcome_of (size system.now) message.client result known ≡ on_ack (setting 0 0 0 (rules (size system.now) (quorum system.now) (fail_prone system.now) above same) owner lowest successor initial_value) (client_of self.now known) message (storing timestamp value (members acknowledged)) }
+        ensures { (known : _) → outcome_of (Q.size system.now) message.client result known ≡ on_ack (setting 0 0 0 (rules (Q.size system.now) (Q.quorum system.now) (Q.fail_prone system.now) S.above V.same) S.owner S.lowest S.successor V.initial_value) (client_of self.now known) message (storing timestamp value (members acknowledged)) }
     {
         if !is_level(message.timestamp, timestamp) {
             return self.unchanged();

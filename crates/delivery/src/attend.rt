@@ -22,10 +22,10 @@ pub(crate) fn attend<Q: QuorumSystem, S: Timestamp, V: Value>(
     room: usize,
 ) -> Result<(Answer<S, V>, Dispatch<S, V>), Refusal>
     requires client { message.client < length clients.old }
-    requires server { message.server < size system.now }
-    requires part { message.client * (size system.now * (size system.now + 1)) + size system.now * (size system.now + 1) ≤ length reports.old }
-    ensures attended { (m : ℕ) → message.client < m → Attended (setting 0 0 0 (rules (size system.now) (quorum system.now) (fail_prone system.now) above same) owner lowest successor initial_value) m clients.old reports.old message kind room result clients.new reports.new }
-    ensures kept { (m : ℕ) → message.client < m → ClientsKept (setting 0 0 0 (rules (size system.now) (quorum system.now) (fail_prone system.now) above same) owner lowest successor initial_value) m clients.old reports.old message kind clients.new reports.new }
+    requires server { message.server < Q.size system.now }
+    requires part { message.client * (Q.size system.now * (Q.size system.now + 1)) + Q.size system.now * (Q.size system.now + 1) ≤ length reports.old }
+    ensures attended { (m : ℕ) → message.client < m → Attended (setting 0 0 0 (rules (Q.size system.now) (Q.quorum system.now) (Q.fail_prone system.now) S.above V.same) S.owner S.lowest S.successor V.initial_value) m clients.old reports.old message kind room result clients.new reports.new }
+    ensures kept { (m : ℕ) → message.client < m → ClientsKept (setting 0 0 0 (rules (Q.size system.now) (Q.quorum system.now) (Q.fail_prone system.now) S.above V.same) S.owner S.lowest S.successor V.initial_value) m clients.old reports.old message kind clients.new reports.new }
 {
     let place = message.client as usize;
     let count = entries_for(system.servers());

@@ -62,11 +62,11 @@ fn hand_by_kind<Q: QuorumSystem, S: Timestamp, V: Value>(
     token: Token,
 ) -> Answer<S, V>
     requires client { message.client < m }
-    requires server { message.server < size system.now }
+    requires server { message.server < Q.size system.now }
     requires named { kind_of message.kind ≡ Some kind }
     requires fits { fits network.old (length messages.old) ≡ true }
-    requires enough { enough_for (size system.now) m network.old.capacity network.old.len (sizes_of (lent servers.old clients.old listeners.old messages.old reports.old)) ≡ true }
-    ensures { HandedByKind (setting m network.old.capacity 4294967295 (rules (size system.now) (quorum system.now) (fail_prone system.now) above same) owner lowest successor initial_value) network.old faulty (lent servers.old clients.old listeners.old messages.old reports.old) message kind result network.new (lent servers.new clients.new listeners.new messages.new reports.new) }
+    requires enough { enough_for (Q.size system.now) m network.old.capacity network.old.len (sizes_of (lent servers.old clients.old listeners.old messages.old reports.old)) ≡ true }
+    ensures { HandedByKind (setting m network.old.capacity 4294967295 (rules (Q.size system.now) (Q.quorum system.now) (Q.fail_prone system.now) S.above V.same) S.owner S.lowest S.successor V.initial_value) network.old faulty (lent servers.old clients.old listeners.old messages.old reports.old) message kind result network.new (lent servers.new clients.new listeners.new messages.new reports.new) }
 {
     if is_from_server(kind) {
         return hand_to_client(
@@ -94,8 +94,8 @@ fn hand_over<Q: QuorumSystem, S: Timestamp, V: Value>(
     token: Token,
 ) -> Answer<S, V>
     requires fits { fits network.old (length messages.old) ≡ true }
-    requires enough { enough_for (size system.now) m network.old.capacity network.old.len (sizes_of (lent servers.old clients.old listeners.old messages.old reports.old)) ≡ true }
-    ensures { HandedOver (setting m network.old.capacity 4294967295 (rules (size system.now) (quorum system.now) (fail_prone system.now) above same) owner lowest successor initial_value) network.old faulty (lent servers.old clients.old listeners.old messages.old reports.old) message result network.new (lent servers.new clients.new listeners.new messages.new reports.new) }
+    requires enough { enough_for (Q.size system.now) m network.old.capacity network.old.len (sizes_of (lent servers.old clients.old listeners.old messages.old reports.old)) ≡ true }
+    ensures { HandedOver (setting m network.old.capacity 4294967295 (rules (Q.size system.now) (Q.quorum system.now) (Q.fail_prone system.now) S.above V.same) S.owner S.lowest S.successor V.initial_value) network.old faulty (lent servers.old clients.old listeners.old messages.old reports.old) message result network.new (lent servers.new clients.new listeners.new messages.new reports.new) }
 {
     let n = system.servers();
     match kind_named(message, n, m) {
@@ -122,7 +122,7 @@ pub fn deliver<Q: QuorumSystem, S: Timestamp, V: Value>(
     reports: &mut [Report<S, V>],
     place: usize,
 ) -> Answer<S, V>
-    ensures { Delivery (setting m capacity 4294967295 (rules (size system.now) (quorum system.now) (fail_prone system.now) above same) owner lowest successor initial_value) len.old faulty (lent servers.old clients.old listeners.old messages.old reports.old) place result len.new (lent servers.new clients.new listeners.new messages.new reports.new) }
+    ensures { Delivery (setting m capacity 4294967295 (rules (Q.size system.now) (Q.quorum system.now) (Q.fail_prone system.now) S.above V.same) S.owner S.lowest S.successor V.initial_value) len.old faulty (lent servers.old clients.old listeners.old messages.old reports.old) place result len.new (lent servers.new clients.new listeners.new messages.new reports.new) }
 {
     let n = system.servers();
     let sizes = Sizes::of(servers, clients, listeners, messages, reports);

@@ -74,7 +74,7 @@ fn settle_and_serve<S: Timestamp, V: Value>(
     requires few { clients ≤ 64 }
     requires client { message.client < clients }
     requires fits { fits network.old (length messages.old) ≡ true }
-    ensures { (n : ℕ) → message.server < n → ServedOn above lowest initial_value n clients faulty servers.old listeners.old network.old messages.old message servers.new listeners.new network.new messages.new }
+    ensures { (n : ℕ) → message.server < n → ServedOn S.above S.lowest V.initial_value n clients faulty servers.old listeners.old network.old messages.old message servers.new listeners.new network.new messages.new }
 {
     network.settle(messages, token);
     let _ = serve(
@@ -98,7 +98,7 @@ pub(crate) fn hand_to_server<S: Timestamp, V: Value>(
     requires few { clients ≤ 64 }
     requires client { message.client < clients }
     requires fits { fits network.old (length messages.old) ≡ true }
-    ensures { (n place : ℕ) → message.server < n → network.old.lifted ≡ Some place → ToServer above lowest initial_value n clients faulty servers.old listeners.old network.old messages.old message place result servers.new listeners.new network.new messages.new }
+    ensures { (n place : ℕ) → message.server < n → network.old.lifted ≡ Some place → ToServer S.above S.lowest V.initial_value n clients faulty servers.old listeners.old network.old messages.old message place result servers.new listeners.new network.new messages.new }
 {
     let sending = count_replies(servers, listeners, clients, message, faulty);
     let room = room_without(*network);
@@ -123,10 +123,10 @@ pub(crate) fn hand_to_client<Q: QuorumSystem, S: Timestamp, V: Value>(
     token: Token,
 ) -> Answer<S, V>
     requires client { message.client < length clients.old }
-    requires server { message.server < size system.now }
-    requires part { message.client * (size system.now * (size system.now + 1)) + size system.now * (size system.now + 1) ≤ length reports.old }
+    requires server { message.server < Q.size system.now }
+    requires part { message.client * (Q.size system.now * (Q.size system.now + 1)) + Q.size system.now * (Q.size system.now + 1) ≤ length reports.old }
     requires fits { fits network.old (length messages.old) ≡ true }
-    ensures { (m place : ℕ) → message.client < m → network.old.lifted ≡ Some place → ToClient (setting 0 0 0 (rules (size system.now) (quorum system.now) (fail_prone system.now) above same) owner lowest successor initial_value) m clients.old reports.old network.old messages.old message kind place result clients.new reports.new network.new messages.new }
+    ensures { (m place : ℕ) → message.client < m → network.old.lifted ≡ Some place → ToClient (setting 0 0 0 (rules (Q.size system.now) (Q.quorum system.now) (Q.fail_prone system.now) S.above V.same) S.owner S.lowest S.successor V.initial_value) m clients.old reports.old network.old messages.old message kind place result clients.new reports.new network.new messages.new }
 {
     let room = room_without(*network);
     match attend(system, clients, reports, message, kind, room) {

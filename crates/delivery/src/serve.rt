@@ -21,8 +21,8 @@ pub(crate) fn serve<S: Timestamp, V: Value>(
 ) -> Result<(), Refusal>
     requires within { message.server < length servers.old }
     requires row { message.server * clients + clients ≤ length listeners.old }
-    ensures served { (n : ℕ) → message.server < n → Served above lowest initial_value n clients faulty servers.old listeners.old network.old memory.old message result servers.new listeners.new network.new memory.new }
-    ensures kept { (n : ℕ) → message.server < n → ServersKept above lowest initial_value n clients servers.old listeners.old servers.new listeners.new }
+    ensures served { (n : ℕ) → message.server < n → Served S.above S.lowest V.initial_value n clients faulty servers.old listeners.old network.old memory.old message result servers.new listeners.new network.new memory.new }
+    ensures kept { (n : ℕ) → message.server < n → ServersKept S.above S.lowest V.initial_value n clients servers.old listeners.old servers.new listeners.new }
 {
     let place = message.server as usize;
     let first = place * clients;
@@ -45,7 +45,7 @@ pub(crate) fn count_replies<S: Timestamp, V: Value>(
 ) -> usize
     requires within { message.server < length servers.now }
     requires row { message.server * clients + clients ≤ length listeners.now }
-    ensures { (n : ℕ) → message.server < n → result ≡ length (server_reacts above lowest initial_value n clients faulty servers.now listeners.now message).sent }
+    ensures { (n : ℕ) → message.server < n → result ≡ length (server_reacts S.above S.lowest V.initial_value n clients faulty servers.now listeners.now message).sent }
 {
     let place = message.server as usize;
     let first = place * clients;

@@ -21,7 +21,7 @@ fn is_backer<S: Timestamp, V: Value>(
     server: u8,
 ) -> bool
     requires row { server < n }
-    ensures { result ≡ backers same (view above (blank lowest initial_value) n part.now) timestamp value server }
+    ensures { result ≡ backers V.same (view S.above (blank S.lowest V.initial_value) n part.now) timestamp value server }
 {
     match evidence_of(part, n, server, timestamp) {
         Some(known) => known.is_same(value),
@@ -37,7 +37,7 @@ fn backers<S: Timestamp, V: Value>(
     value: V,
 ) -> ServerSet
     requires few { n ≤ 16 }
-    ensures { members result ≡ backers same (view above (blank lowest initial_value) n part.now) timestamp value }
+    ensures { members result ≡ backers V.same (view S.above (blank S.lowest V.initial_value) n part.now) timestamp value }
 {
     let mut set = ServerSet::empty();
     for server in 0..n {
@@ -59,7 +59,7 @@ fn weighed<Q: QuorumSystem, S: Timestamp, V: Value>(
 ) -> Option<V>
     requires few { n ≤ 16 }
     requires row { server < n }
-    ensures { result ≡ value_of (λ v. quorum system.now (backers same (view above (blank lowest initial_value) n part.now) timestamp v)) ((view above (blank lowest initial_value) n part.now).evidence server timestamp) rest }
+    ensures { result ≡ value_of (λ v. Q.quorum system.now (backers V.same (view S.above (blank S.lowest V.initial_value) n part.now) timestamp v)) ((view S.above (blank S.lowest V.initial_value) n part.now).evidence server timestamp) rest }
 {
     match evidence_of(part, n, server, timestamp) {
         Some(value) => if system.is_quorum(backers(part, n, timestamp, value)) {
@@ -79,7 +79,7 @@ fn backed<Q: QuorumSystem, S: Timestamp, V: Value>(
     timestamp: S,
 ) -> Option<V>
     requires few { n ≤ 16 }
-    ensures { result ≡ backed (rules n (quorum system.now) (fail_prone system.now) above same) (view above (blank lowest initial_value) n part.now) timestamp n }
+    ensures { result ≡ backed (rules n (Q.quorum system.now) (Q.fail_prone system.now) S.above V.same) (view S.above (blank S.lowest V.initial_value) n part.now) timestamp n }
 {
     let mut found = None;
     for server in 0..n {
@@ -90,7 +90,7 @@ fn backed<Q: QuorumSystem, S: Timestamp, V: Value>(
 
 // Of a pair and the rest, the one with the higher timestamp.
 fn better<S: Timestamp, V: Value>(timestamp: S, value: V, rest: Option<(S, V)>) -> Option<(S, V)>
-    ensures { result ≡ better above timestamp (Some value) rest }
+    ensures { result ≡ better S.above timestamp (Some value) rest }
 {
     match rest {
         Some((other, known)) => if other.is_above(timestamp) {
@@ -112,7 +112,7 @@ fn bettered<Q: QuorumSystem, S: Timestamp, V: Value>(
 ) -> Option<(S, V)>
     requires few { n ≤ 16 }
     requires column { slot < n }
-    ensures { result ≡ bettered (rules n (quorum system.now) (fail_prone system.now) above same) (view above (blank lowest initial_value) n part.now) (cell (blank lowest initial_value) n part.now slot slot).present (cell (blank lowest initial_value) n part.now slot slot).timestamp rest }
+    ensures { result ≡ bettered (rules n (Q.quorum system.now) (Q.fail_prone system.now) S.above V.same) (view S.above (blank S.lowest V.initial_value) n part.now) (cell (blank S.lowest V.initial_value) n part.now slot slot).present (cell (blank S.lowest V.initial_value) n part.now slot slot).timestamp rest }
 {
     let leader = entry(part, n, slot, slot);
     if !leader.present {
@@ -131,7 +131,7 @@ pub(crate) fn decide<Q: QuorumSystem, S: Timestamp, V: Value>(
     n: u8,
 ) -> Option<(S, V)>
     requires few { n ≤ 16 }
-    ensures { result ≡ decide (rules n (quorum system.now) (fail_prone system.now) above same) (view above (blank lowest initial_value) n part.now) (view above (blank lowest initial_value) n part.now).watched }
+    ensures { result ≡ decide (rules n (Q.quorum system.now) (Q.fail_prone system.now) S.above V.same) (view S.above (blank S.lowest V.initial_value) n part.now) (view S.above (blank S.lowest V.initial_value) n part.now).watched }
 {
     let mut best = None;
     for slot in (0..n).rev() {

@@ -13,7 +13,7 @@ use values::Value;
 
 // Whether the slot is watched for the timestamp.
 fn is_watched<S: Timestamp, V: Value>(part: &[Report<S, V>], n: u8, timestamp: S, slot: u8) -> bool
-    ensures { result ≡ watches above (cell (blank lowest initial_value) n part.now) timestamp slot }
+    ensures { result ≡ watches S.above (cell (blank S.lowest V.initial_value) n part.now) timestamp slot }
 {
     let leader = entry(part, n, slot, slot);
     leader.present && is_level(timestamp, leader.timestamp)
@@ -27,7 +27,7 @@ pub(crate) fn evidence_of<S: Timestamp, V: Value>(
     timestamp: S,
 ) -> Option<V>
     requires row { server < n }
-    ensures { result ≡ (view above (blank lowest initial_value) n part.now).evidence server timestamp }
+    ensures { result ≡ (view S.above (blank S.lowest V.initial_value) n part.now).evidence server timestamp }
 {
     let mut last = None;
     for slot in 0..n {
@@ -48,7 +48,7 @@ pub(crate) fn note<S: Timestamp, V: Value>(
 )
     requires room { Room n part.old }
     requires row { server < n }
-    ensures { view above (blank lowest initial_value) n part.new ≡ noted above (view above (blank lowest initial_value) n part.old) server timestamp value }
+    ensures { view S.above (blank S.lowest V.initial_value) n part.new ≡ noted S.above (view S.above (blank S.lowest V.initial_value) n part.old) server timestamp value }
 {
     for slot in 0..n {
         if is_watched(part, n, timestamp, slot) {
@@ -66,7 +66,7 @@ pub(crate) fn note<S: Timestamp, V: Value>(
 fn fresh<S: Timestamp, V: Value>(part: &[Report<S, V>], n: u8, server: u8, slot: u8) -> Report<S, V>
     requires row { server < n }
     requires column { slot < n }
-    ensures { result ≡ fresh above (blank lowest initial_value) (view above (blank lowest initial_value) n part.now) server slot }
+    ensures { result ≡ fresh S.above (blank S.lowest V.initial_value) (view S.above (blank S.lowest V.initial_value) n part.now) server slot }
 {
     let timestamp = entry(part, n, slot, n).timestamp;
     let latest = entry(part, n, server, n);
@@ -97,7 +97,7 @@ fn anew<S: Timestamp, V: Value>(
 ) -> Report<S, V>
     requires row { server < n }
     requires column { slot < n }
-    ensures { result ≡ anew above (blank lowest initial_value) (members leading) (view above (blank lowest initial_value) n part.now) server slot }
+    ensures { result ≡ anew S.above (blank S.lowest V.initial_value) (members leading) (view S.above (blank S.lowest V.initial_value) n part.now) server slot }
 {
     if leading.contains(slot) {
         fresh(part, n, server, slot)
@@ -109,7 +109,7 @@ fn anew<S: Timestamp, V: Value>(
 // Writes the slots from the i-th on anew, counted row by row. Each is read on the way down and written on the way up, so that all are made from the reports as they were.
 fn renew<S: Timestamp, V: Value>(part: &mut [Report<S, V>], n: u8, leading: ServerSet, i: u16)
     requires room { Room n part.old }
-    ensures { (x k : ℕ) → x < n → k ≤ n → cell (blank lowest initial_value) n part.new x k ≡ renew_from (anew above (blank lowest initial_value) (members leading) (view above (blank lowest initial_value) n part.old)) n i (cell (blank lowest initial_value) n part.old) x k }
+    ensures { (x k : ℕ) → x < n → k ≤ n → cell (blank S.lowest V.initial_value) n part.new x k ≡ renew_from (anew S.above (blank S.lowest V.initial_value) (members leading) (view S.above (blank S.lowest V.initial_value) n part.old)) n i (cell (blank S.lowest V.initial_value) n part.old) x k }
 {
     let width = n as u16;
     if i < width * width {
@@ -128,7 +128,7 @@ pub(crate) fn watch_anew<Q: QuorumSystem, S: Timestamp, V: Value>(
     n: u8,
 )
     requires room { Room n part.old }
-    ensures { view above (blank lowest initial_value) n part.new ≡ rewatched (rules n (quorum system.now) (fail_prone system.now) above same) (view above (blank lowest initial_value) n part.old) }
+    ensures { view S.above (blank S.lowest V.initial_value) n part.new ≡ rewatched (rules n (Q.quorum system.now) (Q.fail_prone system.now) S.above V.same) (view S.above (blank S.lowest V.initial_value) n part.old) }
 {
     let leading = leaders(system, part, n);
     renew(part, n, leading, 0);

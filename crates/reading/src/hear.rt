@@ -14,8 +14,8 @@ use values::Value;
 
 // A read begins: nothing is known.
 pub fn forget<S: Timestamp, V: Value>(part: &mut [Report<S, V>])
-    ensures memory { part.new ≡ replicate (length part.old) (blank lowest initial_value) }
-    ensures shows { (n : ℕ) → view above (blank lowest initial_value) n part.new ≡ unread lowest initial_value }
+    ensures memory { part.new ≡ replicate (length part.old) (blank S.lowest V.initial_value) }
+    ensures shows { (n : ℕ) → view S.above (blank S.lowest V.initial_value) n part.new ≡ unread S.lowest V.initial_value }
 {
     for report in part.iter_mut() {
         report.erase();
@@ -40,8 +40,8 @@ fn learn<Q: QuorumSystem, S: Timestamp, V: Value>(
 ) -> Option<(S, V)>
     requires room { Room n part.old }
     requires row { server < n }
-    ensures after { view above (blank lowest initial_value) n part.new ≡ after_value (rules n (quorum system.now) (fail_prone system.now) above same) (blank lowest initial_value) part.old server timestamp value }
-    ensures answer { result ≡ decided (rules n (quorum system.now) (fail_prone system.now) above same) (blank lowest initial_value) part.old server timestamp value }
+    ensures after { view S.above (blank S.lowest V.initial_value) n part.new ≡ after_value (rules n (Q.quorum system.now) (Q.fail_prone system.now) S.above V.same) (blank S.lowest V.initial_value) part.old server timestamp value }
+    ensures answer { result ≡ decided (rules n (Q.quorum system.now) (Q.fail_prone system.now) S.above V.same) (blank S.lowest V.initial_value) part.old server timestamp value }
 {
     let known = raise(part, n, server, timestamp, value);
     if !known {
@@ -60,7 +60,7 @@ pub fn hear<Q: QuorumSystem, S: Timestamp, V: Value>(
     timestamp: S,
     value: V,
 ) -> Option<(S, V)>
-    ensures { Hearing (rules (size system.now) (quorum system.now) (fail_prone system.now) above same) (blank lowest initial_value) part.old server timestamp value result part.new }
+    ensures { Hearing (rules (Q.size system.now) (Q.quorum system.now) (Q.fail_prone system.now) S.above V.same) (blank S.lowest V.initial_value) part.old server timestamp value result part.new }
 {
     let n = system.servers();
     if !is_enough(part.len(), n, server) {

@@ -12,7 +12,7 @@ use values::Value;
 
 // Whether neither of two timestamps is above the other.
 pub(crate) fn is_level<S: Timestamp>(a: S, b: S) -> bool
-    ensures { result ≡ level above a b }
+    ensures { result ≡ level S.above a b }
 {
     !a.is_above(b) && !b.is_above(a)
 }
@@ -20,7 +20,7 @@ pub(crate) fn is_level<S: Timestamp>(a: S, b: S) -> bool
 // Whether the timestamp would be the server's latest: of equals the earlier stays.
 fn is_newer<S: Timestamp, V: Value>(part: &[Report<S, V>], n: u8, server: u8, timestamp: S) -> bool
     requires row { server < n }
-    ensures { result ≡ newer above (view above (blank lowest initial_value) n part.now) server timestamp }
+    ensures { result ≡ newer S.above (view S.above (blank S.lowest V.initial_value) n part.now) server timestamp }
 {
     let latest = entry(part, n, server, n);
     !latest.present || timestamp.is_above(latest.timestamp)
@@ -36,8 +36,8 @@ pub(crate) fn raise<S: Timestamp, V: Value>(
 ) -> bool
     requires room { Room n part.old }
     requires row { server < n }
-    ensures was { result ≡ (view above (blank lowest initial_value) n part.old).entered server }
-    ensures after { view above (blank lowest initial_value) n part.new ≡ raised above (view above (blank lowest initial_value) n part.old) server timestamp value }
+    ensures was { result ≡ (view S.above (blank S.lowest V.initial_value) n part.old).entered server }
+    ensures after { view S.above (blank S.lowest V.initial_value) n part.new ≡ raised S.above (view S.above (blank S.lowest V.initial_value) n part.old) server timestamp value }
 {
     let latest = entry(part, n, server, n);
     if is_newer(part, n, server, timestamp) {
@@ -55,7 +55,7 @@ pub(crate) fn raise<S: Timestamp, V: Value>(
 fn is_ahead<S: Timestamp, V: Value>(part: &[Report<S, V>], n: u8, server: u8, other: u8) -> bool
     requires row { server < n }
     requires second { other < n }
-    ensures { result ≡ ahead above (view above (blank lowest initial_value) n part.now) server other }
+    ensures { result ≡ ahead S.above (view S.above (blank S.lowest V.initial_value) n part.now) server other }
 {
     let own = entry(part, n, server, n).timestamp;
     let latest = entry(part, n, other, n);
@@ -67,7 +67,7 @@ fn is_ahead<S: Timestamp, V: Value>(part: &[Report<S, V>], n: u8, server: u8, ot
 fn ahead_of<S: Timestamp, V: Value>(part: &[Report<S, V>], n: u8, server: u8) -> ServerSet
     requires few { n ≤ 16 }
     requires row { server < n }
-    ensures { members result ≡ ahead above (view above (blank lowest initial_value) n part.now) server }
+    ensures { members result ≡ ahead S.above (view S.above (blank S.lowest V.initial_value) n part.now) server }
 {
     let mut set = ServerSet::empty();
     for other in 0..n {
@@ -87,7 +87,7 @@ fn is_leader<Q: QuorumSystem, S: Timestamp, V: Value>(
 ) -> bool
     requires few { n ≤ 16 }
     requires row { server < n }
-    ensures { result ≡ leads (rules n (quorum system.now) (fail_prone system.now) above same) (view above (blank lowest initial_value) n part.now) server }
+    ensures { result ≡ leads (rules n (Q.quorum system.now) (Q.fail_prone system.now) S.above V.same) (view S.above (blank S.lowest V.initial_value) n part.now) server }
 {
     entry(part, n, server, n).present && system.is_fail_prone(ahead_of(part, n, server))
 }
@@ -99,7 +99,7 @@ pub(crate) fn leaders<Q: QuorumSystem, S: Timestamp, V: Value>(
     n: u8,
 ) -> ServerSet
     requires few { n ≤ 16 }
-    ensures { members result ≡ leads (rules n (quorum system.now) (fail_prone system.now) above same) (view above (blank lowest initial_value) n part.now) }
+    ensures { members result ≡ leads (rules n (Q.quorum system.now) (Q.fail_prone system.now) S.above V.same) (view S.above (blank S.lowest V.initial_value) n part.now) }
 {
     let mut set = ServerSet::empty();
     for server in 0..n {

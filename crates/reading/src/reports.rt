@@ -16,7 +16,7 @@ pub struct Report<S, V> {
 impl<S: Timestamp, V: Value> Report<S, V> {
     // An entry that reports nothing.
     pub fn blank() -> Report<S, V>
-        ensures { result ≡ blank lowest initial_value }
+        ensures { result ≡ blank S.lowest V.initial_value }
     {
         Report {
             present: false,
@@ -27,7 +27,7 @@ impl<S: Timestamp, V: Value> Report<S, V> {
 
     // The entry reports nothing from now on.
     pub(crate) fn erase(&mut self)
-        ensures { self.new ≡ blank lowest initial_value }
+        ensures { self.new ≡ blank S.lowest V.initial_value }
     {
         *self = Report::blank();
     }
@@ -61,7 +61,7 @@ pub(crate) fn entry<S: Timestamp, V: Value>(
     server: u8,
     place: u8,
 ) -> Report<S, V>
-    ensures { result ≡ cell (blank lowest initial_value) n part.now server place }
+    ensures { result ≡ cell (blank S.lowest V.initial_value) n part.now server place }
 {
     let index = index_of(n, server, place);
     if index < part.len() {

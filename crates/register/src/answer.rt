@@ -26,7 +26,7 @@ impl<Q: QuorumSystem> Register<Q> {
         reports: &mut [Report<S, V>],
         place: usize,
     ) -> Answer<S, V>
-        ensures { DeliverAnswers (setting self.old.clients self.old.capacity 4294967295 (rules (size self.old.system) (quorum self.old.system) (fail_prone self.old.system) above same) owner lowest successor initial_value) self.old (lent servers.old clients.old listeners.old messages.old reports.old) place result self.new (lent servers.new clients.new listeners.new messages.new reports.new) }
+        ensures { DeliverAnswers (setting self.old.clients self.old.capacity 4294967295 (rules (Q.size self.old.system) (Q.quorum self.old.system) (Q.fail_prone self.old.system) S.above V.same) S.owner S.lowest S.successor V.initial_value) self.old (lent servers.old clients.old listeners.old messages.old reports.old) place result self.new (lent servers.new clients.new listeners.new messages.new reports.new) }
     {
         let mut len = self.len;
         let answer = deliver(
@@ -56,7 +56,7 @@ impl<Q: QuorumSystem> Register<Q> {
         reports: &mut [Report<S, V>],
         call: Call<S, V>,
     ) -> Answer<S, V>
-        ensures { Answers (setting self.old.clients self.old.capacity 4294967295 (rules (size self.old.system) (quorum self.old.system) (fail_prone self.old.system) above same) owner lowest successor initial_value) self.old (lent servers.old clients.old listeners.old messages.old reports.old) call result self.new (lent servers.new clients.new listeners.new messages.new reports.new) }
+        ensures { Answers (setting self.old.clients self.old.capacity 4294967295 (rules (Q.size self.old.system) (Q.quorum self.old.system) (Q.fail_prone self.old.system) S.above V.same) S.owner S.lowest S.successor V.initial_value) self.old (lent servers.old clients.old listeners.old messages.old reports.old) call result self.new (lent servers.new clients.new listeners.new messages.new reports.new) }
     {
         match call {
             Call::Write { client, value } => self.write(

@@ -34,7 +34,7 @@ fn may_be_sent(byte: u8) -> bool
 impl<Q: QuorumSystem> Register<Q> {
     // Why a server may not turn faulty, if it may not.
     fn refuses_turn(&self, server: u8, faulty: ServerSet) -> Option<Refusal>
-        ensures { result ≡ turn_refusal (size self.now.system) (fail_prone self.now.system) server faulty }
+        ensures { result ≡ turn_refusal (Q.size self.now.system) (Q.fail_prone self.now.system) server faulty }
     {
         if server >= self.system.servers() {
             return Some(Refusal::NoServer);
@@ -55,7 +55,7 @@ impl<Q: QuorumSystem> Register<Q> {
         reports: &[Report<S, V>],
         server: u8,
     ) -> Answer<S, V>
-        ensures { Answers (setting self.old.clients self.old.capacity 4294967295 (rules (size self.old.system) (quorum self.old.system) (fail_prone self.old.system) above same) owner lowest successor initial_value) self.old (lent servers.now clients.now listeners.now messages.now reports.now) (Turn server) result self.new (lent servers.now clients.now listeners.now messages.now reports.now) }
+        ensures { Answers (setting self.old.clients self.old.capacity 4294967295 (rules (Q.size self.old.system) (Q.quorum self.old.system) (Q.fail_prone self.old.system) S.above V.same) S.owner S.lowest S.successor V.initial_value) self.old (lent servers.now clients.now listeners.now messages.now reports.now) (Turn server) result self.new (lent servers.now clients.now listeners.now messages.now reports.now) }
     {
         if !self.goes_with(servers, clients, listeners, messages, reports) {
             return Answer::Refused(Refusal::Memory);
@@ -72,7 +72,7 @@ impl<Q: QuorumSystem> Register<Q> {
 
     // Why a message of these names and this kind is not sent by a faulty server, if it is not.
     fn refuses_forging(&self, server: u8, client: u8, kind: u8) -> Option<Refusal>
-        ensures { result ≡ forge_refusal (size self.now.system) self.now.clients self.now.capacity self.now.len self.now.faulty server client kind }
+        ensures { result ≡ forge_refusal (Q.size self.now.system) self.now.clients self.now.capacity self.now.len self.now.faulty server client kind }
     {
         if server >= self.system.servers() {
             return Some(Refusal::NoServer);
@@ -116,7 +116,7 @@ impl<Q: QuorumSystem> Register<Q> {
         reports: &[Report<S, V>],
         message: Message<S, V>,
     ) -> Answer<S, V>
-        ensures { Answers (setting self.old.clients self.old.capacity 4294967295 (rules (size self.old.system) (quorum self.old.system) (fail_prone self.old.system) above same) owner lowest successor initial_value) self.old (lent servers.now clients.now listeners.now messages.old reports.now) (Forge message.server message.client message.kind message.number message.timestamp message.value) result self.new (lent servers.now clients.now listeners.now messages.new reports.now) }
+        ensures { Answers (setting self.old.clients self.old.capacity 4294967295 (rules (Q.size self.old.system) (Q.quorum self.old.system) (Q.fail_prone self.old.system) S.above V.same) S.owner S.lowest S.successor V.initial_value) self.old (lent servers.now clients.now listeners.now messages.old reports.now) (Forge message.server message.client message.kind message.number message.timestamp message.value) result self.new (lent servers.now clients.now listeners.now messages.new reports.now) }
     {
         if !self.goes_with(servers, clients, listeners, messages, reports) {
             return Answer::Refused(Refusal::Memory);

@@ -46,7 +46,7 @@ impl<Q: QuorumSystem> Register<Q> {
         messages: &[Message<S, V>],
         reports: &[Report<S, V>],
     ) -> Result<Register<Q>, Refusal>
-        ensures { Opened (setting m capacity 4294967295 (rules (size system) (quorum system) (fail_prone system) above same) owner lowest successor initial_value) system (lent servers.old clients.old listeners.old messages.now reports.now) result (lent servers.new clients.new listeners.new messages.now reports.now) }
+        ensures { Opened (setting m capacity 4294967295 (rules (Q.size system) (Q.quorum system) (Q.fail_prone system) S.above V.same) S.owner S.lowest S.successor V.initial_value) system (lent servers.old clients.old listeners.old messages.now reports.now) result (lent servers.new clients.new listeners.new messages.now reports.now) }
     {
         let register = Register {
             system,

@@ -47,9 +47,9 @@ impl<Q: QuorumSystem> Register<Q> {
         client: u8,
         dispatch: Dispatch<S, V>,
     )
-        requires { Room (network_of self.old) (length messages.old) (sending (size self.old.system) dispatch) }
+        requires { Room (network_of self.old) (length messages.old) (sending (Q.size self.old.system) dispatch) }
         ensures record { self.new ≡ with_queue self.old self.new.len self.old.faulty }
-        ensures sent { Sent (network_of self.old) messages.old (messages_of (size self.old.system) client dispatch) (network_of self.new) messages.new }
+        ensures sent { Sent (network_of self.old) messages.old (messages_of (Q.size self.old.system) client dispatch) (network_of self.new) messages.new }
     {
         let mut network = self.network();
         let n = self.system.servers();
@@ -68,7 +68,7 @@ impl<Q: QuorumSystem> Register<Q> {
         client: u8,
         value: V,
     ) -> Answer<S, V>
-        ensures { Answers (setting self.old.clients self.old.capacity 4294967295 (rules (size self.old.system) (quorum self.old.system) (fail_prone self.old.system) above same) owner lowest successor initial_value) self.old (lent servers.now clients.old listeners.now messages.old reports.now) (Write client value) result self.new (lent servers.now clients.new listeners.now messages.new reports.now) }
+        ensures { Answers (setting self.old.clients self.old.capacity 4294967295 (rules (Q.size self.old.system) (Q.quorum self.old.system) (Q.fail_prone self.old.system) S.above V.same) S.owner S.lowest S.successor V.initial_value) self.old (lent servers.now clients.old listeners.now messages.old reports.now) (Write client value) result self.new (lent servers.now clients.new listeners.now messages.new reports.now) }
     {
         if !self.goes_with(servers, clients, listeners, messages, reports) {
             return Answer::Refused(Refusal::Memory);
@@ -95,7 +95,7 @@ impl<Q: QuorumSystem> Register<Q> {
         reports: &mut [Report<S, V>],
         client: u8,
     ) -> Answer<S, V>
-        ensures { ReadAnswers (setting self.old.clients self.old.capacity 4294967295 (rules (size self.old.system) (quorum self.old.system) (fail_prone self.old.system) above same) owner lowest successor initial_value) self.old (lent servers.now clients.old listeners.now messages.old reports.old) client result self.new (lent servers.now clients.new listeners.now messages.new reports.new) }
+        ensures { ReadAnswers (setting self.old.clients self.old.capacity 4294967295 (rules (Q.size self.old.system) (Q.quorum self.old.system) (Q.fail_prone self.old.system) S.above V.same) S.owner S.lowest S.successor V.initial_value) self.old (lent servers.now clients.old listeners.now messages.old reports.old) client result self.new (lent servers.now clients.new listeners.now messages.new reports.new) }
     {
         if !self.goes_with(servers, clients, listeners, messages, reports) {
             return Answer::Refused(Refusal::Memory);

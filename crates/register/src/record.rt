@@ -32,7 +32,7 @@ impl<Q: QuorumSystem> Register<Q> {
         messages: &[Message<S, V>],
         reports: &[Report<S, V>],
     ) -> bool
-        ensures { result ≡ enough_for (size self.now.system) self.now.clients self.now.capacity self.now.len (sizes_of (lent servers.now clients.now listeners.now messages.now reports.now)) }
+        ensures { result ≡ enough_for (Q.size self.now.system) self.now.clients self.now.capacity self.now.len (sizes_of (lent servers.now clients.now listeners.now messages.now reports.now)) }
     {
         let n = self.system.servers();
         let sizes = Sizes::of(servers, clients, listeners, messages, reports);

@@ -37,9 +37,9 @@ fn play_all<Q: QuorumSystem, S: Timestamp, V: Value>(
     answers: &mut [Answer<S, V>],
 )
     requires room { length calls.now ≤ length answers.old }
-    requires fits { enough (setting register.old.clients register.old.capacity 4294967295 (rules (size register.old.system) (quorum register.old.system) (fail_prone register.old.system) above same) owner lowest successor initial_value) register.old.len (lent servers.old clients.old listeners.old messages.old reports.old) ≡ true }
-    requires fresh { state_of (setting register.old.clients register.old.capacity 4294967295 (rules (size register.old.system) (quorum register.old.system) (fail_prone register.old.system) above same) owner lowest successor initial_value) register.old (lent servers.old clients.old listeners.old messages.old reports.old) ≡ opened (setting register.old.clients register.old.capacity 4294967295 (rules (size register.old.system) (quorum register.old.system) (fail_prone register.old.system) above same) owner lowest successor initial_value) }
-    ensures { Playing (setting register.old.clients register.old.capacity 4294967295 (rules (size register.old.system) (quorum register.old.system) (fail_prone register.old.system) above same) owner lowest successor initial_value) calls.now register.old (lent servers.old clients.old listeners.old messages.old reports.old) answers.old register.new (lent servers.new clients.new listeners.new messages.new reports.new) answers.new }
+    requires fits { enough (setting register.old.clients register.old.capacity 4294967295 (rules (Q.size register.old.system) (Q.quorum register.old.system) (Q.fail_prone register.old.system) S.above V.same) S.owner S.lowest S.successor V.initial_value) register.old.len (lent servers.old clients.old listeners.old messages.old reports.old) ≡ true }
+    requires fresh { state_of (setting register.old.clients register.old.capacity 4294967295 (rules (Q.size register.old.system) (Q.quorum register.old.system) (Q.fail_prone register.old.system) S.above V.same) S.owner S.lowest S.successor V.initial_value) register.old (lent servers.old clients.old listeners.old messages.old reports.old) ≡ opened (setting register.old.clients register.old.capacity 4294967295 (rules (Q.size register.old.system) (Q.quorum register.old.system) (Q.fail_prone register.old.system) S.above V.same) S.owner S.lowest S.successor V.initial_value) }
+    ensures { Playing (setting register.old.clients register.old.capacity 4294967295 (rules (Q.size register.old.system) (Q.quorum register.old.system) (Q.fail_prone register.old.system) S.above V.same) S.owner S.lowest S.successor V.initial_value) calls.now register.old (lent servers.old clients.old listeners.old messages.old reports.old) answers.old register.new (lent servers.new clients.new listeners.new messages.new reports.new) answers.new }
 {
     for (i, call) in calls.iter().enumerate() {
         let answer = register.answer(servers, clients, listeners, messages, reports, *call);
@@ -62,7 +62,7 @@ pub fn play<Q: QuorumSystem, S: Timestamp, V: Value>(
     calls: &[Call<S, V>],
     answers: &mut [Answer<S, V>],
 ) -> Result<Register<Q>, Refusal>
-    ensures { Played (setting m capacity 4294967295 (rules (size system) (quorum system) (fail_prone system) above same) owner lowest successor initial_value) system calls.now (lent servers.old clients.old listeners.old messages.old reports.old) answers.old result (lent servers.new clients.new listeners.new messages.new reports.new) answers.new }
+    ensures { Played (setting m capacity 4294967295 (rules (Q.size system) (Q.quorum system) (Q.fail_prone system) S.above V.same) S.owner S.lowest S.successor V.initial_value) system calls.now (lent servers.old clients.old listeners.old messages.old reports.old) answers.old result (lent servers.new clients.new listeners.new messages.new reports.new) answers.new }
 {
     if answers.len() < calls.len() {
         return Err(Refusal::Memory);

@@ -11,7 +11,7 @@ use values::Value;
 impl<S: Timestamp> Listener<S> {
     // A listener at first.
     pub fn silent() -> Listener<S>
-        ensures { result ≡ silent lowest }
+        ensures { result ≡ silent S.lowest }
     {
         Listener {
             number: 0,
@@ -22,7 +22,7 @@ impl<S: Timestamp> Listener<S> {
 
     // Whether the client is passed this timestamp.
     pub(crate) fn wants(&self, timestamp: S) -> bool
-        ensures { result ≡ wants above self.now timestamp }
+        ensures { result ≡ wants S.above self.now timestamp }
     {
         self.listening && !self.start.is_above(timestamp)
     }
@@ -42,7 +42,7 @@ impl<S: Timestamp> Listener<S> {
 
 // How many clients of the row want a timestamp.
 pub(crate) fn count_wanting<S: Timestamp>(listeners: &[Listener<S>], timestamp: S) -> usize
-    ensures { result ≡ wanting above (listener_in lowest listeners.now) timestamp (length listeners.now) }
+    ensures { result ≡ wanting S.above (listener_in S.lowest listeners.now) timestamp (length listeners.now) }
 {
     let mut count = 0;
     for listener in listeners.iter() {
@@ -55,7 +55,7 @@ pub(crate) fn count_wanting<S: Timestamp>(listeners: &[Listener<S>], timestamp: 
 
 // How the server listens to a client, read field by field.
 pub(crate) fn listener_of<S: Timestamp>(listeners: &[Listener<S>], client: u8) -> Listener<S>
-    ensures { result ≡ listener_in lowest listeners.now client }
+    ensures { result ≡ listener_in S.lowest listeners.now client }
 {
     let place = client as usize;
     if place >= listeners.len() {
@@ -73,7 +73,7 @@ pub(crate) fn is_new<S: Timestamp, V: Value>(
     listeners: &[Listener<S>],
     message: Message<S, V>,
 ) -> bool
-    ensures { result ≡ nat_lt (listener_in lowest listeners.now message.client).number message.number }
+    ensures { result ≡ nat_lt (listener_in S.lowest listeners.now message.client).number message.number }
 {
     listener_of(listeners, message.client).number < message.number
 }
@@ -83,7 +83,7 @@ pub(crate) fn is_current<S: Timestamp, V: Value>(
     listeners: &[Listener<S>],
     message: Message<S, V>,
 ) -> bool
-    ensures { result ≡ nat_le (listener_in lowest listeners.now message.client).number message.number }
+    ensures { result ≡ nat_le (listener_in S.lowest listeners.now message.client).number message.number }
 {
     listener_of(listeners, message.client).number <= message.number
 }
@@ -95,7 +95,7 @@ pub(crate) fn set_listener<S: Timestamp>(
     listener: Listener<S>,
 )
     requires { client < length listeners.old }
-    ensures { listener_in lowest listeners.new ≡ updated (listener_in lowest listeners.old) client listener }
+    ensures { listener_in S.lowest listeners.new ≡ updated (listener_in S.lowest listeners.old) client listener }
 {
     listeners[client as usize] = listener;
 }

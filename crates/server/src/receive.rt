@@ -20,7 +20,7 @@ pub const MOST_CLIENTS: usize = 64;
 impl<S: Timestamp, V: Value> Server<S, V> {
     // A server at first.
     pub fn initial() -> Server<S, V>
-        ensures { result ≡ record { timestamp = lowest; value = initial_value } }
+        ensures { result ≡ record { timestamp = S.lowest; value = V.initial_value } }
     {
         Server {
             timestamp: S::initial(),
@@ -30,7 +30,7 @@ impl<S: Timestamp, V: Value> Server<S, V> {
 
     // How many messages the server would send on a message.
     pub fn replies(&self, listeners: &[Listener<S>], message: Message<S, V>, faulty: bool) -> usize
-        ensures { result ≡ length (reacts above lowest initial_value faulty self.now listeners.now message).sent }
+        ensures { result ≡ length (reacts S.above S.lowest V.initial_value faulty self.now listeners.now message).sent }
     {
         if faulty {
             return 0;
@@ -50,7 +50,7 @@ impl<S: Timestamp, V: Value> Server<S, V> {
         message: Message<S, V>,
         faulty: bool,
     ) -> Result<(), Refusal>
-        ensures { Received above lowest initial_value faulty self.old listeners.old network.old memory.old message result self.new listeners.new network.new memory.new }
+        ensures { Received S.above S.lowest V.initial_value faulty self.old listeners.old network.old memory.old message result self.new listeners.new network.new memory.new }
     {
         let sending = self.replies(listeners, message, faulty);
         if let Some(refusal) = refuses(
@@ -78,8 +78,8 @@ impl<S: Timestamp, V: Value> Server<S, V> {
     )
         requires few { length listeners.old ≤ 64 }
         requires within { message.client < length listeners.old }
-        requires room { Room network.old (length memory.old) (length (reacts above lowest initial_value false self.old listeners.old message).sent) }
-        ensures { Reacted lowest network.old memory.old (reacts above lowest initial_value false self.old listeners.old message) self.new listeners.new network.new memory.new }
+        requires room { Room network.old (length memory.old) (length (reacts S.above S.lowest V.initial_value false self.old listeners.old message).sent) }
+        ensures { Reacted S.lowest network.old memory.old (reacts S.above S.lowest V.initial_value false self.old listeners.old message) self.new listeners.new network.new memory.new }
     {
         match Kind::from_byte(message.kind) {
             Some(kind) => self.react_by_kind(kind, listeners, network, memory, message),
@@ -98,8 +98,8 @@ impl<S: Timestamp, V: Value> Server<S, V> {
     )
         requires few { length listeners.old ≤ 64 }
         requires within { message.client < length listeners.old }
-        requires room { Room network.old (length memory.old) (length (by_kind above lowest initial_value kind (length listeners.old) (state_of lowest self.old listeners.old) message).sent) }
-        ensures { Reacted lowest network.old memory.old (by_kind above lowest initial_value kind (length listeners.old) (state_of lowest self.old listeners.old) message) self.new listeners.new network.new memory.new }
+        requires room { Room network.old (length memory.old) (length (by_kind S.above S.lowest V.initial_value kind (length listeners.old) (state_of S.lowest self.old listeners.old) message).sent) }
+        ensures { Reacted S.lowest network.old memory.old (by_kind S.above S.lowest V.initial_value kind (length listeners.old) (state_of S.lowest self.old listeners.old) message) self.new listeners.new network.new memory.new }
     {
         match kind {
             Kind::Query => self.answer_query(network, memory, message),
@@ -120,7 +120,7 @@ impl<S: Timestamp, V: Value> Server<S, V> {
         message: Message<S, V>,
     )
         requires { Room network.old (length memory.old) 1 }
-        ensures { (row : _) → Reacted lowest network.old memory.old (on_query above lowest initial_value (state_of lowest self.now row) message) self.now row network.new memory.new }
+        ensures { (row : _) → Reacted S.lowest network.old memory.old (on_query S.above S.lowest V.initial_value (state_of S.lowest self.now row) message) self.now row network.new memory.new }
     {
         send(
             network,
@@ -138,8 +138,8 @@ impl<S: Timestamp, V: Value> Server<S, V> {
         message: Message<S, V>,
     )
         requires few { length listeners.now ≤ 64 }
-        requires room { Room network.old (length memory.old) (length (on_store above lowest initial_value (length listeners.now) (state_of lowest self.old listeners.now) message).sent) }
-        ensures { Reacted lowest network.old memory.old (on_store above lowest initial_value (length listeners.now) (state_of lowest self.old listeners.now) message) self.new listeners.now network.new memory.new }
+        requires room { Room network.old (length memory.old) (length (on_store S.above S.lowest V.initial_value (length listeners.now) (state_of S.lowest self.old listeners.now) message).sent) }
+        ensures { Reacted S.lowest network.old memory.old (on_store S.above S.lowest V.initial_value (length listeners.now) (state_of S.lowest self.old listeners.now) message) self.new listeners.now network.new memory.new }
     {
         send(
             network,
@@ -152,7 +152,7 @@ impl<S: Timestamp, V: Value> Server<S, V> {
 
     // Holds the pair of a STORE if its timestamp is above the one held.
     fn hold(&mut self, message: Message<S, V>)
-        ensures { (row : _) → state_of lowest self.new row ≡ (on_store above lowest initial_value 0 (state_of lowest self.old row) message).after }
+        ensures { (row : _) → state_of S.lowest self.new row ≡ (on_store S.above S.lowest V.initial_value 0 (state_of S.lowest self.old row) message).after }
     {
         if message.timestamp.is_above(self.timestamp) {
             self.timestamp = message.timestamp;
@@ -169,8 +169,8 @@ impl<S: Timestamp, V: Value> Server<S, V> {
         message: Message<S, V>,
     )
         requires within { message.client < length listeners.old }
-        requires room { Room network.old (length memory.old) (length (on_read above lowest initial_value (state_of lowest self.now listeners.old) message).sent) }
-        ensures { Reacted lowest network.old memory.old (on_read above lowest initial_value (state_of lowest self.now listeners.old) message) self.now listeners.new network.new memory.new }
+        requires room { Room network.old (length memory.old) (length (on_read S.above S.lowest V.initial_value (state_of S.lowest self.now listeners.old) message).sent) }
+        ensures { Reacted S.lowest network.old memory.old (on_read S.above S.lowest V.initial_value (state_of S.lowest self.now listeners.old) message) self.now listeners.new network.new memory.new }
     {
         if is_new(listeners, message) {
             set_listener(
@@ -193,7 +193,7 @@ impl<S: Timestamp, V: Value> Server<S, V> {
     // STOP, if it is not late: the server no longer listens.
     fn answer_stop(&self, listeners: &mut [Listener<S>], message: Message<S, V>)
         requires { message.client < length listeners.old }
-        ensures { state_of lowest self.now listeners.new ≡ (on_stop above lowest initial_value (state_of lowest self.now listeners.old) message).after }
+        ensures { state_of S.lowest self.now listeners.new ≡ (on_stop S.above S.lowest V.initial_value (state_of S.lowest self.now listeners.old) message).after }
     {
         if is_current(listeners, message) {
             let start = listener_of(listeners, message.client).start;
@@ -238,7 +238,7 @@ fn replies_by_kind<S: Timestamp, V: Value>(
     listeners: &[Listener<S>],
     message: Message<S, V>,
 ) -> usize
-    ensures { (server : _) → result ≡ length (by_kind above lowest initial_value kind (length listeners.now) (state_of lowest server listeners.now) message).sent }
+    ensures { (server : _) → result ≡ length (by_kind S.above S.lowest V.initial_value kind (length listeners.now) (state_of S.lowest server listeners.now) message).sent }
 {
     match kind {
         Kind::Query => 1,
@@ -256,7 +256,7 @@ fn replies_to_store<S: Timestamp, V: Value>(
     listeners: &[Listener<S>],
     message: Message<S, V>,
 ) -> usize
-    ensures { (server : _) → result ≡ length (on_store above lowest initial_value (length listeners.now) (state_of lowest server listeners.now) message).sent }
+    ensures { (server : _) → result ≡ length (on_store S.above S.lowest V.initial_value (length listeners.now) (state_of S.lowest server listeners.now) message).sent }
 {
     1 + count_wanting(listeners, message.timestamp)
 }
@@ -266,7 +266,7 @@ fn replies_to_read<S: Timestamp, V: Value>(
     listeners: &[Listener<S>],
     message: Message<S, V>,
 ) -> usize
-    ensures { (server : _) → result ≡ length (on_read above lowest initial_value (state_of lowest server listeners.now) message).sent }
+    ensures { (server : _) → result ≡ length (on_read S.above S.lowest V.initial_value (state_of S.lowest server listeners.now) message).sent }
 {
     if is_new(listeners, message) { 1 } else { 0 }
 }

@@ -47,8 +47,8 @@ pub(crate) fn pass_on<S: Timestamp, V: Value>(
     message: Message<S, V>,
 )
     requires few { length listeners.now ≤ 64 }
-    requires room { Room network.old (length memory.old) (wanting above (listener_in lowest listeners.now) message.timestamp (length listeners.now)) }
-    ensures { Sent network.old memory.old (passed_on above message (listener_in lowest listeners.now) (length listeners.now)) network.new memory.new }
+    requires room { Room network.old (length memory.old) (wanting S.above (listener_in S.lowest listeners.now) message.timestamp (length listeners.now)) }
+    ensures { Sent network.old memory.old (passed_on S.above message (listener_in S.lowest listeners.now) (length listeners.now)) network.new memory.new }
 {
     let timestamp = message.timestamp;
     for (client, listener) in listeners.iter().enumerate() {

@@ -48,7 +48,7 @@ pub fn hand_over<S: Timestamp, V: Value>(
     memory: &mut [Message<S, V>],
     message: Message<S, V>,
 ) -> Result<(), Refusal>
-    ensures { Delivered above lowest initial_value server.old listeners.old network.old memory.old message result server.new listeners.new network.new memory.new }
+    ensures { Delivered S.above S.lowest V.initial_value server.old listeners.old network.old memory.old message result server.new listeners.new network.new memory.new }
 {
     match pass_through(network, memory, message) {
         Ok(taken) => server.receive(listeners, network, memory, taken, false),
