@@ -15,7 +15,7 @@ returns-then-not-suffice g c =
     let q = c.args.system.now in
     let n = g.Q.QuorumSystem.size q in
     let len = c.args.len.now in
-    let K = setting c.args.m c.args.capacity 4294967295 (rules n (g.Q.QuorumSystem.quorum q) (g.Q.QuorumSystem.fail_prone q) g.S.Timestamp.above g.row.V-Value.same) g.S.Timestamp.owner g.S.Timestamp.lowest g.S.Timestamp.successor g.row.V-Value.initial_value in
+    let K = setting c.args.m c.args.capacity 4294967295 (rules n (g.Q.QuorumSystem.quorum q) (g.Q.QuorumSystem.fail_prone q) g.S.Timestamp.above g.V.Value.same) g.S.Timestamp.owner g.S.Timestamp.lowest g.S.Timestamp.successor g.V.Value.initial_value in
     let x = lent c.args.servers.now c.args.clients.now c.args.listeners.now c.args.messages.now c.args.reports.now in
     let was : enough_for n c.args.m c.args.capacity len (sizes_of x) ≡ false =
     sym (c.if-not-suffice.ensures ∙ ap₂ (λ k s. enough_for k c.args.m c.args.capacity len s) c.servers-n.ensures c.of-sizes.ensures) in
@@ -48,7 +48,7 @@ returns-in-Ok g c =
     let m = c.args.m in
     let capacity = c.args.capacity in
     let place = c.args.place in
-    let K = λ (k : _). setting m k 4294967295 (rules n (g.Q.QuorumSystem.quorum q) (g.Q.QuorumSystem.fail_prone q) g.S.Timestamp.above g.row.V-Value.same) g.S.Timestamp.owner g.S.Timestamp.lowest g.S.Timestamp.successor g.row.V-Value.initial_value in
+    let K = λ (k : _). setting m k 4294967295 (rules n (g.Q.QuorumSystem.quorum q) (g.Q.QuorumSystem.fail_prone q) g.S.Timestamp.above g.V.Value.same) g.S.Timestamp.owner g.S.Timestamp.lowest g.S.Timestamp.successor g.V.Value.initial_value in
     let x = lent c.args.servers.now c.args.clients.now c.args.listeners.now c.args.messages.now c.args.reports.now in
     let x' = lent c.hand_over-answer.new.servers c.hand_over-answer.new.clients c.hand_over-answer.new.listeners c.hand_over-answer.new.messages c.hand_over-answer.new.reports in
     let was : enough_for n m capacity len (sizes_of x) ≡ true =
@@ -66,7 +66,7 @@ returns-in-Err g c =
     let len = c.args.len.now in
     let m = c.args.m in
     let capacity = c.args.capacity in
-    let K = setting m capacity 4294967295 (rules n (g.Q.QuorumSystem.quorum q) (g.Q.QuorumSystem.fail_prone q) g.S.Timestamp.above g.row.V-Value.same) g.S.Timestamp.owner g.S.Timestamp.lowest g.S.Timestamp.successor g.row.V-Value.initial_value in
+    let K = setting m capacity 4294967295 (rules n (g.Q.QuorumSystem.quorum q) (g.Q.QuorumSystem.fail_prone q) g.S.Timestamp.above g.V.Value.same) g.S.Timestamp.owner g.S.Timestamp.lowest g.S.Timestamp.successor g.V.Value.initial_value in
     let x = lent c.args.servers.now c.args.clients.now c.args.listeners.now c.args.messages.now c.args.reports.now in
     let was : enough_for n m capacity len (sizes_of x) ≡ true =
     sym (c.if-not-suffice.ensures ∙ ap₂ (λ k s. enough_for k m capacity len s) c.servers-n.ensures c.of-sizes.ensures) in

@@ -24,7 +24,7 @@ pub returns-then-is_from_server : goal.returns-then-is_from_server
 returns-then-is_from_server g c place is =
     let q = c.args.system.now in
     let net = c.args.network.now in
-    let K = setting c.args.m net.capacity 4294967295 (rules (g.Q.QuorumSystem.size q) (g.Q.QuorumSystem.quorum q) (g.Q.QuorumSystem.fail_prone q) g.S.Timestamp.above g.row.V-Value.same) g.S.Timestamp.owner g.S.Timestamp.lowest g.S.Timestamp.successor g.row.V-Value.initial_value in
+    let K = setting c.args.m net.capacity 4294967295 (rules (g.Q.QuorumSystem.size q) (g.Q.QuorumSystem.quorum q) (g.Q.QuorumSystem.fail_prone q) g.S.Timestamp.above g.V.Value.same) g.S.Timestamp.owner g.S.Timestamp.lowest g.S.Timestamp.successor g.V.Value.initial_value in
     let comes : from_server c.args.kind ≡ true = sym c.if-is_from_server.ensures in
     client_handed K c.args.faulty c.args.servers.now c.args.clients.now c.args.listeners.now c.args.messages.now c.args.reports.now net c.args.message c.args.kind place
     c.requires.fits is refl c.requires.enough
@@ -48,13 +48,13 @@ pub returns : goal.returns
 returns g c place is =
     let q = c.args.system.now in
     let net = c.args.network.now in
-    let K = setting c.args.m net.capacity 4294967295 (rules (g.Q.QuorumSystem.size q) (g.Q.QuorumSystem.quorum q) (g.Q.QuorumSystem.fail_prone q) g.S.Timestamp.above g.row.V-Value.same) g.S.Timestamp.owner g.S.Timestamp.lowest g.S.Timestamp.successor g.row.V-Value.initial_value in
+    let K = setting c.args.m net.capacity 4294967295 (rules (g.Q.QuorumSystem.size q) (g.Q.QuorumSystem.quorum q) (g.Q.QuorumSystem.fail_prone q) g.S.Timestamp.above g.V.Value.same) g.S.Timestamp.owner g.S.Timestamp.lowest g.S.Timestamp.successor g.V.Value.initial_value in
     let ss = c.args.servers.now in
     let ls = c.args.listeners.now in
     let memory = c.args.messages.now in
     let message = c.args.message in
     let goes : from_server c.args.kind ≡ false = sym c.if-is_from_server.ensures in
-    let P : Bool → Type 0 = λ f. ToServer g.S.Timestamp.above g.S.Timestamp.lowest g.row.V-Value.initial_value (g.Q.QuorumSystem.size q) c.args.m f ss ls net memory message place
+    let P : Bool → Type 0 = λ f. ToServer g.S.Timestamp.above g.S.Timestamp.lowest g.V.Value.initial_value (g.Q.QuorumSystem.size q) c.args.m f ss ls net memory message place
     c.hand_to_server.result c.hand_to_server.new.servers c.hand_to_server.new.listeners c.hand_to_server.new.network c.hand_to_server.new.messages in
     server_handed K c.args.faulty ss c.args.clients.now ls memory c.args.reports.now net message c.args.kind place c.requires.fits is refl c.requires.enough
     c.hand_to_server.result c.hand_to_server.new.servers c.hand_to_server.new.listeners c.hand_to_server.new.network c.hand_to_server.new.messages

@@ -27,7 +27,7 @@ pub returns : goal.returns
 returns g c n few =
     let above = g.S.Timestamp.above in
     let lowest = g.S.Timestamp.lowest in
-    let initial = g.row.V-Value.initial_value in
+    let initial = g.V.Value.initial_value in
     let ss = c.args.servers.now in
     let ls = c.args.listeners.now in
     let b = c.args.message.server in

@@ -8,8 +8,8 @@ loop-server-preserved g c =
     let n = c.args.n in
     let s = c.args.timestamp in
     let b = c.loop-server.server in
-    let r = view g.S.Timestamp.above (blank g.S.Timestamp.lowest g.row.V-Value.initial_value) n c.args.part.now in
+    let r = view g.S.Timestamp.above (blank g.S.Timestamp.lowest g.V.Value.initial_value) n c.args.part.now in
     let quorum = g.Q.QuorumSystem.quorum c.args.system.now in
-    let same = g.row.V-Value.same in
+    let same = g.V.Value.same in
     let k = rules n quorum (g.Q.QuorumSystem.fail_prone c.args.system.now) g.S.Timestamp.above same in
     c.weighed-found.ensures ∙ ap (λ o. value_of (λ v. quorum (backers same r s v)) (r.evidence b s) o) c.loop-server.invariant ∙ ap (λ i. backed k r s i) (sym (add-one b))

@@ -7,5 +7,5 @@ use Rattle.reading.proofs.decide.backers.Given as goal
 
 abbrev pub invariant-loop-server : goal.invariant-loop-server
 invariant-loop-server g l =
-    let r = view g.S.Timestamp.above (blank g.S.Timestamp.lowest g.row.V-Value.initial_value) l.n l.part in
-    (i : ℕ) → members l.set i ≡ upto (backers g.row.V-Value.same r l.timestamp l.value) l.server i
+    let r = view g.S.Timestamp.above (blank g.S.Timestamp.lowest g.V.Value.initial_value) l.n l.part in
+    (i : ℕ) → members l.set i ≡ upto (backers g.V.Value.same r l.timestamp l.value) l.server i

@@ -43,7 +43,7 @@ anew-report-requires g t c = record {
 
 pub returns-then-i-width : goal.returns-then-i-width
 returns-then-i-width g t c x k hx hk =
-    let d = blank g.S.Timestamp.lowest g.row.V-Value.initial_value in
+    let d = blank g.S.Timestamp.lowest g.V.Value.initial_value in
     let n = c.args.n in
     let i = c.args.i in
     let f = anew g.S.Timestamp.above d (members c.args.leading) (view g.S.Timestamp.above d n c.args.part.now) in
@@ -58,7 +58,7 @@ returns-then-i-width g t c x k hx hk =
 
 pub returns-else-i-width : goal.returns-else-i-width
 returns-else-i-width g t c x k hx hk =
-    let d = blank g.S.Timestamp.lowest g.row.V-Value.initial_value in
+    let d = blank g.S.Timestamp.lowest g.V.Value.initial_value in
     let n = c.args.n in
     let f = anew g.S.Timestamp.above d (members c.args.leading) (view g.S.Timestamp.above d n c.args.part.now) in
     renew_none f (cell d n c.args.part.now) n c.args.i x k hx c.if-i-width.false

@@ -10,7 +10,7 @@ use Rattle.reading.proofs.evidence.note.Goals.{then-is_watched, else-is_watched}
 pub loop-slot-preserved : goal.loop-slot-preserved
 loop-slot-preserved g c x k l =
     let above = g.S.Timestamp.above in
-    let d = blank g.S.Timestamp.lowest g.row.V-Value.initial_value in
+    let d = blank g.S.Timestamp.lowest g.V.Value.initial_value in
     let n = c.args.n in
     let b = c.args.server in
     let s = c.args.timestamp in
@@ -30,7 +30,7 @@ loop-slot-preserved g c x k l =
 pub returns : goal.returns
 returns g c =
     let above = g.S.Timestamp.above in
-    let d = blank g.S.Timestamp.lowest g.row.V-Value.initial_value in
+    let d = blank g.S.Timestamp.lowest g.V.Value.initial_value in
     let n = c.args.n in
     let grid = cell d n c.args.part.now in
     let end : c.loop-slot.slot ≡ n = omega arith in

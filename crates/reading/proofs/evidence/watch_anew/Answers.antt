@@ -9,12 +9,12 @@ use Rattle.reading.proofs.evidence.watch_anew.Goals as goal
 pub returns : goal.returns
 returns g c =
     let above = g.S.Timestamp.above in
-    let d = blank g.S.Timestamp.lowest g.row.V-Value.initial_value in
+    let d = blank g.S.Timestamp.lowest g.V.Value.initial_value in
     let n = c.args.n in
     let old = c.args.part.now in
     let r = view above d n old in
-    let k = rules n (g.Q.QuorumSystem.quorum c.args.system.now) (g.Q.QuorumSystem.fail_prone c.args.system.now) above g.row.V-Value.same in
+    let k = rules n (g.Q.QuorumSystem.quorum c.args.system.now) (g.Q.QuorumSystem.fail_prone c.args.system.now) above g.V.Value.same in
     shown_same above d n (cell d n c.renew.new.part) (λ x j. cond (ltb j n) (anew above d (leads k r) r x j) (cell d n old x j))
     (λ x j l m. c.renew.ensures x j l m ∙ renew_all (anew above d (members c.leaders-leading.result) r) (cell d n old) n x j
     ∙ ap (λ t. cond (ltb j n) (anew above d t r x j) (cell d n old x j)) c.leaders-leading.ensures)
-    ∙ enter_all k g.S.Timestamp.lowest g.row.V-Value.initial_value g.met.S.Timestamp.ordered (cell d n old)
+    ∙ enter_all k g.S.Timestamp.lowest g.V.Value.initial_value g.met.S.Timestamp.ordered (cell d n old)

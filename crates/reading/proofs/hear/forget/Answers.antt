@@ -6,14 +6,14 @@ use Rattle.reading.proofs.Parts.{view_blank}
 use Rattle.reading.proofs.hear.forget.Goals as goal
 
 pub offset_bounds-part-report-index : goal.offset_bounds-part-report-index
-offset_bounds-part-report-index g c = scaled_Fits c.loop-report.report-index (length c.args.part.now) _ c.loop-report-test.true c.well-formed.0.1
+offset_bounds-part-report-index g c = scaled_Fits c.loop-report.report-index (length c.args.part.now) _ c.loop-report-test.true c.well_formed.0.1
 
 pub bounds-part-report-index : goal.bounds-part-report-index
 bounds-part-report-index g c = omega (arith, c.loop-report-test.true, c.loop-report.auto.part)
 
 pub loop-report-preserved : goal.loop-report-preserved
 loop-report-preserved g c =
-    let d = blank g.S.Timestamp.lowest g.row.V-Value.initial_value in
+    let d = blank g.S.Timestamp.lowest g.V.Value.initial_value in
     let i = c.loop-report.report-index in
     let xs = c.loop-report.part in
     let lt : i < length xs = omega arith in
@@ -23,7 +23,7 @@ loop-report-preserved g c =
 
 pub returns : goal.returns
 returns g c =
-    let d = blank g.S.Timestamp.lowest g.row.V-Value.initial_value in
+    let d = blank g.S.Timestamp.lowest g.V.Value.initial_value in
     let xs = c.loop-report.part in
     let m = length c.args.part.now in
     let size : length xs ≡ m = omega arith in
@@ -31,5 +31,5 @@ returns g c =
     ext_get_or d xs (replicate m d) (size ∙ sym (length-replicate m d)) (λ k l. c.loop-report.invariant k (omega arith) ∙ sym (get_or-replicate m k d d (omega arith))) in
     record {
       memory = same;
-      shows = λ n. ap (λ p. view g.S.Timestamp.above d n p) same ∙ view_blank g.S.Timestamp.above g.S.Timestamp.lowest g.row.V-Value.initial_value n m;
+      shows = λ n. ap (λ p. view g.S.Timestamp.above d n p) same ∙ view_blank g.S.Timestamp.above g.S.Timestamp.lowest g.V.Value.initial_value n m;
     }

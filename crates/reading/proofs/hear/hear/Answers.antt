@@ -44,7 +44,7 @@ returns g c =
     let q = c.args.system.now in
     let p = c.args.part.now in
     let b = c.args.server in
-    let d = blank g.S.Timestamp.lowest g.row.V-Value.initial_value in
+    let d = blank g.S.Timestamp.lowest g.V.Value.initial_value in
     let z = g.Q.QuorumSystem.size q in
     let nz : n ≡ z = c.servers-n.ensures in
     let few : n ≤ 16 = subst (λ k. k ≤ 16) (sym nz) (g.met.Q.QuorumSystem.lawful q).few_servers in
@@ -53,7 +53,7 @@ returns g c =
     let was = length-take-le c.entries_for.result p (omega (arith, c.entries_for.ensures, room.long)) in
     record {
       enough = λ e.
-          heard_whole g.S.Timestamp.above g.row.V-Value.same (g.Q.QuorumSystem.quorum q) (g.Q.QuorumSystem.fail_prone q) d n z c.entries_for.result p c.learn.new.part b
+          heard_whole g.S.Timestamp.above g.V.Value.same (g.Q.QuorumSystem.quorum q) (g.Q.QuorumSystem.fail_prone q) d n z c.entries_for.result p c.learn.new.part b
           c.args.timestamp c.args.value c.learn.result nz c.entries_for.ensures room (c.learn.auto.part ∙ was) c.learn.ensures.after
           c.learn.ensures.answer;
       short = λ e. absurd (both_ways (enough_memory z p b) e (ap (λ k. enough_memory k p b) (sym nz) ∙ yes));

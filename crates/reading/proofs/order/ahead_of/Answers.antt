@@ -11,12 +11,12 @@ use Rattle.reading.proofs.order.ahead_of.Goals.{then-is_ahead, else-is_ahead}
 
 pub loop-other-init : goal.loop-other-init
 loop-other-init g c i =
-    let r = view g.S.Timestamp.above (blank g.S.Timestamp.lowest g.row.V-Value.initial_value) c.args.n c.args.part.now in
+    let r = view g.S.Timestamp.above (blank g.S.Timestamp.lowest g.V.Value.initial_value) c.args.n c.args.part.now in
     upto_none (ahead g.S.Timestamp.above r c.args.server) (members c.empty-set.result) c.empty-set.ensures.members i
 
 pub loop-other-preserved : goal.loop-other-preserved
 loop-other-preserved g c i =
-    let r = view g.S.Timestamp.above (blank g.S.Timestamp.lowest g.row.V-Value.initial_value) c.args.n c.args.part.now in
+    let r = view g.S.Timestamp.above (blank g.S.Timestamp.lowest g.V.Value.initial_value) c.args.n c.args.part.now in
     let p : Set = ahead g.S.Timestamp.above r c.args.server in
     let few : c.loop-other.other < 16 = omega (arith, c.requires.few) in
     elim c.if-is_ahead.branch [
@@ -29,7 +29,7 @@ loop-other-preserved g c i =
 pub returns : goal.returns
 returns g c =
     let n = c.args.n in
-    let r = view g.S.Timestamp.above (blank g.S.Timestamp.lowest g.row.V-Value.initial_value) n c.args.part.now in
+    let r = view g.S.Timestamp.above (blank g.S.Timestamp.lowest g.V.Value.initial_value) n c.args.part.now in
     let p : Set = ahead g.S.Timestamp.above r c.args.server in
     let end : c.loop-other.other ≡ n = omega arith in
     fun_ext (λ i. c.loop-other.invariant i ∙ ap (λ k. upto p k i) end ∙ upto_all p n (λ k l. and_left _ _ (gone k n _ false l)) i)

@@ -6,7 +6,7 @@ use Rattle.reading.proofs.order.raise.Goals as goal
 
 pub returns-then-is_newer : goal.returns-then-is_newer
 returns-then-is_newer g c =
-    let d = blank g.S.Timestamp.lowest g.row.V-Value.initial_value in
+    let d = blank g.S.Timestamp.lowest g.V.Value.initial_value in
     let above = g.S.Timestamp.above in
     let n = c.args.n in
     let b = c.args.server in
@@ -21,7 +21,7 @@ returns-then-is_newer g c =
 
 pub returns-else-is_newer : goal.returns-else-is_newer
 returns-else-is_newer g c =
-    let d = blank g.S.Timestamp.lowest g.row.V-Value.initial_value in
+    let d = blank g.S.Timestamp.lowest g.V.Value.initial_value in
     record {
       was = search rules;
       after =

@@ -4,7 +4,7 @@ use Rattle.std.proofs.lemmas.List.{set_past}
 use Rattle.reading.proofs.reports.put.Goals as goal
 
 pub offset_bounds-part-index : goal.offset_bounds-part-index
-offset_bounds-part-index g c = scaled_Fits c.index_of-index.result (length c.args.part.now) _ c.if-index-part.true c.well-formed.0.1
+offset_bounds-part-index g c = scaled_Fits c.index_of-index.result (length c.args.part.now) _ c.if-index-part.true c.well_formed.0.1
 
 pub bounds-part-index : goal.bounds-part-index
 bounds-part-index g c = c.if-index-part.true

@@ -20,7 +20,7 @@ returns-then-answers-calls g c = few_answers _ _ _ _ c.if-answers-calls.true
 pub play_all-requires : goal.play_all-requires
 play_all-requires g c =
     let Kof : Register g.row.Q.Denot → Setting g.row.S.Denot g.row.V.Denot = λ r.
-    setting r.clients r.capacity 4294967295 (rules (g.Q.QuorumSystem.size r.system) (g.Q.QuorumSystem.quorum r.system) (g.Q.QuorumSystem.fail_prone r.system) g.S.Timestamp.above g.row.V-Value.same) g.S.Timestamp.owner g.S.Timestamp.lowest g.S.Timestamp.successor g.row.V-Value.initial_value in
+    setting r.clients r.capacity 4294967295 (rules (g.Q.QuorumSystem.size r.system) (g.Q.QuorumSystem.quorum r.system) (g.Q.QuorumSystem.fail_prone r.system) g.S.Timestamp.above g.V.Value.same) g.S.Timestamp.owner g.S.Timestamp.lowest g.S.Timestamp.successor g.V.Value.initial_value in
     let o = c.in-Ok.ensures in
     let x' = lent c.open.new.servers c.open.new.clients c.open.new.listeners c.args.messages.now c.args.reports.now in
     let E : Register g.row.Q.Denot → Type 0 = λ r. enough (Kof r) r.len x' ≡ true in
@@ -34,7 +34,7 @@ play_all-requires g c =
 pub returns-in-Ok : goal.returns-in-Ok
 returns-in-Ok g c =
     let Kof : Register g.row.Q.Denot → Setting g.row.S.Denot g.row.V.Denot = λ r.
-    setting r.clients r.capacity 4294967295 (rules (g.Q.QuorumSystem.size r.system) (g.Q.QuorumSystem.quorum r.system) (g.Q.QuorumSystem.fail_prone r.system) g.S.Timestamp.above g.row.V-Value.same) g.S.Timestamp.owner g.S.Timestamp.lowest g.S.Timestamp.successor g.row.V-Value.initial_value in
+    setting r.clients r.capacity 4294967295 (rules (g.Q.QuorumSystem.size r.system) (g.Q.QuorumSystem.quorum r.system) (g.Q.QuorumSystem.fail_prone r.system) g.S.Timestamp.above g.V.Value.same) g.S.Timestamp.owner g.S.Timestamp.lowest g.S.Timestamp.successor g.V.Value.initial_value in
     let o = c.in-Ok.ensures in
     let x' = lent c.open.new.servers c.open.new.clients c.open.new.listeners c.args.messages.now c.args.reports.now in
     let x'' = lent c.play_all.new.servers c.play_all.new.clients c.play_all.new.listeners c.play_all.new.messages c.play_all.new.reports in

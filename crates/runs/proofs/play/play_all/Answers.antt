@@ -21,7 +21,7 @@ put-requires g c = omega (arith, c.requires.room, c.loop-i-test.true, c.loop-i.a
 pub loop-i-preserved : goal.loop-i-preserved
 loop-i-preserved g c =
     let Kof : Register g.row.Q.Denot → Setting g.row.S.Denot g.row.V.Denot = λ r.
-    setting r.clients r.capacity 4294967295 (rules (g.Q.QuorumSystem.size r.system) (g.Q.QuorumSystem.quorum r.system) (g.Q.QuorumSystem.fail_prone r.system) g.S.Timestamp.above g.row.V-Value.same) g.S.Timestamp.owner g.S.Timestamp.lowest g.S.Timestamp.successor g.row.V-Value.initial_value in
+    setting r.clients r.capacity 4294967295 (rules (g.Q.QuorumSystem.size r.system) (g.Q.QuorumSystem.quorum r.system) (g.Q.QuorumSystem.fail_prone r.system) g.S.Timestamp.above g.V.Value.same) g.S.Timestamp.owner g.S.Timestamp.lowest g.S.Timestamp.successor g.V.Value.initial_value in
     let h = c.args.register.now in
     let x = lent c.loop-i.servers c.loop-i.clients c.loop-i.listeners c.loop-i.messages c.loop-i.reports in
     let x' = lent c.answer-answer.new.servers c.answer-answer.new.clients c.answer-answer.new.listeners c.answer-answer.new.messages c.answer-answer.new.reports in
@@ -36,7 +36,7 @@ loop-i-preserved g c =
 pub returns : goal.returns
 returns g c =
     let Kof : Register g.row.Q.Denot → Setting g.row.S.Denot g.row.V.Denot = λ r.
-    setting r.clients r.capacity 4294967295 (rules (g.Q.QuorumSystem.size r.system) (g.Q.QuorumSystem.quorum r.system) (g.Q.QuorumSystem.fail_prone r.system) g.S.Timestamp.above g.row.V-Value.same) g.S.Timestamp.owner g.S.Timestamp.lowest g.S.Timestamp.successor g.row.V-Value.initial_value in
+    setting r.clients r.capacity 4294967295 (rules (g.Q.QuorumSystem.size r.system) (g.Q.QuorumSystem.quorum r.system) (g.Q.QuorumSystem.fail_prone r.system) g.S.Timestamp.above g.V.Value.same) g.S.Timestamp.owner g.S.Timestamp.lowest g.S.Timestamp.successor g.V.Value.initial_value in
     let h = c.args.register.now in
     let R : List (Call g.row.S.Denot g.row.V.Denot) → Type 0 = λ l.
     Playing (Kof h) l h (lent c.args.servers.now c.args.clients.now c.args.listeners.now c.args.messages.now c.args.reports.now) c.args.answers.now

@@ -7,7 +7,7 @@ pub returns-in-Store : goal.returns-in-Store
 returns-in-Store g c server =
     let above = g.S.Timestamp.above in
     let lowest = g.S.Timestamp.lowest in
-    let initial = g.row.V-Value.initial_value in
+    let initial = g.V.Value.initial_value in
     let row = c.args.listeners.now in
     let x = state_of lowest server row in
     let counted : ◌≡◌ {A = ℕ} c.replies_to_store.result (length (on_store above lowest initial (length row) x c.args.message).sent) = c.replies_to_store.ensures server in

@@ -10,8 +10,8 @@ pub returns : goal.returns
 returns g c =
     let q = c.args.system.now in
     let n = g.Q.QuorumSystem.size q in
-    let K = setting 0 0 0 (rules n (g.Q.QuorumSystem.quorum q) (g.Q.QuorumSystem.fail_prone q) g.S.Timestamp.above g.row.V-Value.same) g.S.Timestamp.owner g.S.Timestamp.lowest g.S.Timestamp.successor g.row.V-Value.initial_value in
-    let d = blank g.S.Timestamp.lowest g.row.V-Value.initial_value in
+    let K = setting 0 0 0 (rules n (g.Q.QuorumSystem.quorum q) (g.Q.QuorumSystem.fail_prone q) g.S.Timestamp.above g.V.Value.same) g.S.Timestamp.owner g.S.Timestamp.lowest g.S.Timestamp.successor g.V.Value.initial_value in
+    let d = blank g.S.Timestamp.lowest g.V.Value.initial_value in
     let before = view g.S.Timestamp.above d n c.args.part.now in
     let known = view g.S.Timestamp.above d n c.forget.new.part in
     record {

@@ -12,8 +12,8 @@ use Rattle.client.proofs.state.Client.weigh.Goals as goal
 pub returns-in-Asking-Ts : goal.returns-in-Asking-Ts
 returns-in-Asking-Ts g c =
     let q = c.args.system.now in
-    let K = setting 0 0 0 (rules (g.Q.QuorumSystem.size q) (g.Q.QuorumSystem.quorum q) (g.Q.QuorumSystem.fail_prone q) g.S.Timestamp.above g.row.V-Value.same) g.S.Timestamp.owner g.S.Timestamp.lowest g.S.Timestamp.successor g.row.V-Value.initial_value in
-    let d = blank g.S.Timestamp.lowest g.row.V-Value.initial_value in
+    let K = setting 0 0 0 (rules (g.Q.QuorumSystem.size q) (g.Q.QuorumSystem.quorum q) (g.Q.QuorumSystem.fail_prone q) g.S.Timestamp.above g.V.Value.same) g.S.Timestamp.owner g.S.Timestamp.lowest g.S.Timestamp.successor g.V.Value.initial_value in
+    let d = blank g.S.Timestamp.lowest g.V.Value.initial_value in
     let p = c.args.part.now in
     let m = c.args.message in
     let known = view g.S.Timestamp.above d (g.Q.QuorumSystem.size q) p in
@@ -25,8 +25,8 @@ returns-in-Asking-Ts g c =
 pub returns-in-Asking-default : goal.returns-in-Asking-default
 returns-in-Asking-default g c =
     let q = c.args.system.now in
-    let K = setting 0 0 0 (rules (g.Q.QuorumSystem.size q) (g.Q.QuorumSystem.quorum q) (g.Q.QuorumSystem.fail_prone q) g.S.Timestamp.above g.row.V-Value.same) g.S.Timestamp.owner g.S.Timestamp.lowest g.S.Timestamp.successor g.row.V-Value.initial_value in
-    let d = blank g.S.Timestamp.lowest g.row.V-Value.initial_value in
+    let K = setting 0 0 0 (rules (g.Q.QuorumSystem.size q) (g.Q.QuorumSystem.quorum q) (g.Q.QuorumSystem.fail_prone q) g.S.Timestamp.above g.V.Value.same) g.S.Timestamp.owner g.S.Timestamp.lowest g.S.Timestamp.successor g.V.Value.initial_value in
+    let d = blank g.S.Timestamp.lowest g.V.Value.initial_value in
     let p = c.args.part.now in
     let m = c.args.message in
     let known = view g.S.Timestamp.above d (g.Q.QuorumSystem.size q) p in
@@ -38,8 +38,8 @@ returns-in-Asking-default g c =
 pub returns-in-Storing-Ack : goal.returns-in-Storing-Ack
 returns-in-Storing-Ack g c =
     let q = c.args.system.now in
-    let K = setting 0 0 0 (rules (g.Q.QuorumSystem.size q) (g.Q.QuorumSystem.quorum q) (g.Q.QuorumSystem.fail_prone q) g.S.Timestamp.above g.row.V-Value.same) g.S.Timestamp.owner g.S.Timestamp.lowest g.S.Timestamp.successor g.row.V-Value.initial_value in
-    let d = blank g.S.Timestamp.lowest g.row.V-Value.initial_value in
+    let K = setting 0 0 0 (rules (g.Q.QuorumSystem.size q) (g.Q.QuorumSystem.quorum q) (g.Q.QuorumSystem.fail_prone q) g.S.Timestamp.above g.V.Value.same) g.S.Timestamp.owner g.S.Timestamp.lowest g.S.Timestamp.successor g.V.Value.initial_value in
+    let d = blank g.S.Timestamp.lowest g.V.Value.initial_value in
     let p = c.args.part.now in
     let m = c.args.message in
     let known = view g.S.Timestamp.above d (g.Q.QuorumSystem.size q) p in
@@ -51,8 +51,8 @@ returns-in-Storing-Ack g c =
 pub returns-in-Storing-default : goal.returns-in-Storing-default
 returns-in-Storing-default g c =
     let q = c.args.system.now in
-    let K = setting 0 0 0 (rules (g.Q.QuorumSystem.size q) (g.Q.QuorumSystem.quorum q) (g.Q.QuorumSystem.fail_prone q) g.S.Timestamp.above g.row.V-Value.same) g.S.Timestamp.owner g.S.Timestamp.lowest g.S.Timestamp.successor g.row.V-Value.initial_value in
-    let d = blank g.S.Timestamp.lowest g.row.V-Value.initial_value in
+    let K = setting 0 0 0 (rules (g.Q.QuorumSystem.size q) (g.Q.QuorumSystem.quorum q) (g.Q.QuorumSystem.fail_prone q) g.S.Timestamp.above g.V.Value.same) g.S.Timestamp.owner g.S.Timestamp.lowest g.S.Timestamp.successor g.V.Value.initial_value in
+    let d = blank g.S.Timestamp.lowest g.V.Value.initial_value in
     let p = c.args.part.now in
     let m = c.args.message in
     let known = view g.S.Timestamp.above d (g.Q.QuorumSystem.size q) p in
@@ -64,8 +64,8 @@ returns-in-Storing-default g c =
 pub returns-in-Reading-default : goal.returns-in-Reading-default
 returns-in-Reading-default g c =
     let q = c.args.system.now in
-    let K = setting 0 0 0 (rules (g.Q.QuorumSystem.size q) (g.Q.QuorumSystem.quorum q) (g.Q.QuorumSystem.fail_prone q) g.S.Timestamp.above g.row.V-Value.same) g.S.Timestamp.owner g.S.Timestamp.lowest g.S.Timestamp.successor g.row.V-Value.initial_value in
-    let d = blank g.S.Timestamp.lowest g.row.V-Value.initial_value in
+    let K = setting 0 0 0 (rules (g.Q.QuorumSystem.size q) (g.Q.QuorumSystem.quorum q) (g.Q.QuorumSystem.fail_prone q) g.S.Timestamp.above g.V.Value.same) g.S.Timestamp.owner g.S.Timestamp.lowest g.S.Timestamp.successor g.V.Value.initial_value in
+    let d = blank g.S.Timestamp.lowest g.V.Value.initial_value in
     let p = c.args.part.now in
     let m = c.args.message in
     let known = view g.S.Timestamp.above d (g.Q.QuorumSystem.size q) p in
@@ -77,8 +77,8 @@ returns-in-Reading-default g c =
 pub returns-in-Idle-default : goal.returns-in-Idle-default
 returns-in-Idle-default g c =
     let q = c.args.system.now in
-    let K = setting 0 0 0 (rules (g.Q.QuorumSystem.size q) (g.Q.QuorumSystem.quorum q) (g.Q.QuorumSystem.fail_prone q) g.S.Timestamp.above g.row.V-Value.same) g.S.Timestamp.owner g.S.Timestamp.lowest g.S.Timestamp.successor g.row.V-Value.initial_value in
-    let d = blank g.S.Timestamp.lowest g.row.V-Value.initial_value in
+    let K = setting 0 0 0 (rules (g.Q.QuorumSystem.size q) (g.Q.QuorumSystem.quorum q) (g.Q.QuorumSystem.fail_prone q) g.S.Timestamp.above g.V.Value.same) g.S.Timestamp.owner g.S.Timestamp.lowest g.S.Timestamp.successor g.V.Value.initial_value in
+    let d = blank g.S.Timestamp.lowest g.V.Value.initial_value in
     let p = c.args.part.now in
     let m = c.args.message in
     let known = view g.S.Timestamp.above d (g.Q.QuorumSystem.size q) p in

@@ -23,7 +23,7 @@ pub post-requires : goal.post-requires
 post-requires g c =
     let h = c.args.self.now in
     let q = h.system in
-    let K = setting h.clients h.capacity 4294967295 (rules (g.Q.QuorumSystem.size q) (g.Q.QuorumSystem.quorum q) (g.Q.QuorumSystem.fail_prone q) g.S.Timestamp.above g.row.V-Value.same) g.S.Timestamp.owner g.S.Timestamp.lowest g.S.Timestamp.successor g.row.V-Value.initial_value in
+    let K = setting h.clients h.capacity 4294967295 (rules (g.Q.QuorumSystem.size q) (g.Q.QuorumSystem.quorum q) (g.Q.QuorumSystem.fail_prone q) g.S.Timestamp.above g.V.Value.same) g.S.Timestamp.owner g.S.Timestamp.lowest g.S.Timestamp.successor g.V.Value.initial_value in
     let x = lent c.args.servers.now c.args.clients.now c.args.listeners.now c.args.messages.now c.args.reports.now in
     let much = sym c.if-not-goes_with.ensures in
     let room = forge_room K h x much c.args.message (sym c.refuses_forging.ensures ∙ c.in-None.is) in

@@ -11,7 +11,7 @@ returns-in-Query g c =
     let row = c.args.listeners.now in
     let P : Kind → Type 0 = λ k.
     Reacted lowest c.args.network.now c.args.memory.now
-    (by_kind g.S.Timestamp.above lowest g.row.V-Value.initial_value k (length row) (state_of lowest c.args.self.now row) c.args.message)
+    (by_kind g.S.Timestamp.above lowest g.V.Value.initial_value k (length row) (state_of lowest c.args.self.now row) c.args.message)
     c.args.self.now row c.answer_query.new.network c.answer_query.new.memory in
     subst P (sym c.in-Query.is) (c.answer_query.ensures row)
 
@@ -21,6 +21,6 @@ returns-in-Stop g c =
     let row = c.args.listeners.now in
     let P : Kind → Type 0 = λ k.
     Reacted lowest c.args.network.now c.args.memory.now
-    (by_kind g.S.Timestamp.above lowest g.row.V-Value.initial_value k (length row) (state_of lowest c.args.self.now row) c.args.message)
+    (by_kind g.S.Timestamp.above lowest g.V.Value.initial_value k (length row) (state_of lowest c.args.self.now row) c.args.message)
     c.args.self.now c.answer_stop.new.listeners c.args.network.now c.args.memory.now in
     subst P (sym c.in-Stop.is) (record { state_after = c.answer_stop.ensures; sent_after = sent_none c.args.network.now c.args.memory.now })

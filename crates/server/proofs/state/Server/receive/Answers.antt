@@ -12,15 +12,15 @@ react-requires g c =
     let row = c.args.listeners.now in
     let net = c.args.network.now in
     let room = length c.args.memory.now in
-    let passed = checks_passed net room (length row) c.args.message.client c.replies-sending.result (sym c.refuses.ensures ∙ c.in-default.is) in
+    let passed = checks_passed net room (length row) c.args.message.client c.replies-sending.result (sym c.refuses.ensures ∙ c.in_default.is) in
     let counted : ◌≡◌ {A = ℕ} c.replies-sending.result
-    (length (reaction g.S.Timestamp.above lowest g.row.V-Value.initial_value c.args.faulty (length row) (state_of lowest c.args.self.now row) c.args.message).sent) =
+    (length (reaction g.S.Timestamp.above lowest g.V.Value.initial_value c.args.faulty (length row) (state_of lowest c.args.self.now row) c.args.message).sent) =
     c.replies-sending.ensures in
     let P : ℕ → Type 0 = λ k. Room net room k in
     record {
       few = passed.0;
       within = passed.1;
       room = subst P
-          (counted ∙ ap (λ b. length (reaction g.S.Timestamp.above lowest g.row.V-Value.initial_value b (length row) (state_of lowest c.args.self.now row) c.args.message).sent) c.if-not-faulty.true)
+          (counted ∙ ap (λ b. length (reaction g.S.Timestamp.above lowest g.V.Value.initial_value b (length row) (state_of lowest c.args.self.now row) c.args.message).sent) c.if-not-faulty.true)
           passed.2;
     }
