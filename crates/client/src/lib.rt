@@ -1,5 +1,6 @@
 // One client: its open operation, and what it does with a message.
 #![tactic(auto)]
+
 pub mod begin;
 mod listening;
 pub mod send;

@@ -1,6 +1,7 @@
 // One value through one server: a write, a read, and a second write while the server listens for the
 // reader. Each action is told in a line.
 #![tactic(auto)]
+
 mod exchange;
 
 use exchange::{Exchange, READER, WRITER, from_client};
