@@ -1,4 +1,4 @@
-use Rattle.std.proofs.Common.{◌≡◌, ℕ, ◌+◌, ◌-◌, ◌*◌, ◌≤◌, length, get_or, take, drop, set, sym, ap, ◌∙◌, subst, arith, rules}
+use Rattle.std.proofs.Common.{◌≡◌, ℕ, ◌+◌, ◌-◌, ◌*◌, ◌≤◌, length, get_or, take, drop, set, sym, ap, ◌∙◌, subst, arith, rules as general_rules}
 use borrow.Author.Rules.{scaled_fits≤}
 use borrow.Rule.Slice.PartMut.{put_mid}
 use Rattle.std.proofs.lemmas.List.{length-take-le, length-drop, get_or_default}
@@ -35,7 +35,7 @@ offset_bounds-reports-first g c =
     let size : k ≡ n * (n + 1) = c.entries_for-count.ensures ∙ ap (λ x. x * (x + 1)) c.servers.ensures in
     let ends : c.args.message.client * k + k ≤ length c.args.reports.now = subst (λ x. c.args.message.client * x + x ≤ length c.args.reports.now) (sym size) c.requires.part in
     let i : c.args.message.client * k ≤ length c.args.reports.now = omega (arith, ends) in
-    search (rules, scaled_fits≤)
+    search (general_rules, scaled_fits≤)
 
 pub slice_bounds-take_in-end : goal.slice_bounds-take_in-end
 slice_bounds-take_in-end g c =
@@ -65,7 +65,7 @@ returns g c m few =
     let taken : R (get_or cs u first) k = subst (λ z. R (get_or cs u first) z) width (subst (λ x. R x (u * k + k - u * k)) given c.take_in.ensures) in
     let rest : length (drop (u * k) ps) ≡ length ps - u * k = length-drop (u * k) ps in
     let long : length (part k ps u) ≡ k = length-take-le k (drop (u * k) ps) (omega (arith, rest, ends)) in
-    let kept : length c.take_in.new.part ≡ k = search rules in
+    let kept : length c.take_in.new.part ≡ k = search general_rules in
     let inside : u * k + k ≤ length ps = omega (arith, ends) in
     let W : ℕ → Type 0 = λ z.
     (u * z + z ≤ length ps) × (length (part z ps u) ≡ z) × (length c.take_in.new.part ≡ z)

@@ -1,4 +1,4 @@
-use Rattle.std.proofs.Common.{◌≡◌, ℕ, ◌+◌, ◌-◌, ◌*◌, ◌≤◌, length, get_or, take, drop, set, sym, ap, ◌∙◌, subst, arith, rules}
+use Rattle.std.proofs.Common.{◌≡◌, ℕ, ◌+◌, ◌-◌, ◌*◌, ◌≤◌, length, get_or, take, drop, set, sym, ap, ◌∙◌, subst, arith, rules as general_rules}
 use borrow.Author.Rules.{scaled_fits≤}
 use borrow.Rule.Slice.PartMut.{put_mid}
 use Rattle.std.proofs.lemmas.List.{length-take-le, length-drop, get_or_default}
@@ -37,7 +37,7 @@ offset_bounds-reports-first g c =
     let size : k ≡ n * (n + 1) = c.entries_for-count.ensures ∙ ap (λ x. x * (x + 1)) c.servers.ensures in
     let ends : c.args.client * k + k ≤ length c.args.reports.now = subst (λ x. c.args.client * x + x ≤ length c.args.reports.now) (sym size) c.requires.part in
     let i : c.args.client * k ≤ length c.args.reports.now = omega (arith, ends) in
-    search (rules, scaled_fits≤)
+    search (general_rules, scaled_fits≤)
 
 pub slice_bounds-begin_read-end : goal.slice_bounds-begin_read-end
 slice_bounds-begin_read-end g c =
@@ -67,7 +67,7 @@ returns g c m capacity most few =
     let B : Client g.row.S.Denot g.row.V.Denot → ℕ → Type 0 = λ x z.
     BegunRead bare d x (take z (drop (u * k) ps)) u c.args.room c.begin_read.result c.begin_read.new.self c.begin_read.new.part in
     let begun : B (get_or cs u first) k = subst (λ z. B (get_or cs u first) z) width (subst (λ x. B x (u * k + k - u * k)) given c.begin_read.ensures) in
-    let kept : length c.begin_read.new.part ≡ k = search rules in
+    let kept : length c.begin_read.new.part ≡ k = search general_rules in
     let W : ℕ → Type 0 = λ z.
     (length c.begin_read.new.part ≡ z) × BegunRead bare d (get_or cs u first) (part z ps u) u c.args.room c.begin_read.result c.begin_read.new.self c.begin_read.new.part in
     let whole : W (n * (n + 1)) = subst W size (kept, begun) in

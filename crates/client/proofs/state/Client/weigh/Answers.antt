@@ -1,4 +1,4 @@
-use Rattle.std.proofs.Common.{◌≡◌, sym, refl, ap, ◌∙◌, rules}
+use Rattle.std.proofs.Common.{◌≡◌, sym, refl, ap, ◌∙◌, rules as general_rules}
 use Rattle.network.specs.declared.message.Kind.TheVariants.{Ts, Ack, Value}
 use Rattle.quorums.specs.Sets.{members}
 use Rattle.reading.specs.Readings.{rules}
@@ -32,7 +32,7 @@ returns-in-Asking-default g c =
     let known = view g.S.Timestamp.above d (g.Q.QuorumSystem.size q) p in
     let x = client_of c.args.self.now known in
     let phase_is : x.phase ≡ asking c.in-Asking-default.value-0 (members c.in-Asking-default.told-0) c.in-Asking-default.highest-0 = ap (λ f. phase_of f known) c.in-Asking-default.is-0 in
-    let other : c.args.kind ≡ Ts → ⊥ = search rules in
+    let other : c.args.kind ≡ Ts → ⊥ = search general_rules in
     record { weighed = weigh_unchanged K d p m c.args.room c.unchanged.result (awaited K c.args.kind x m) x (c.unchanged.ensures (g.Q.QuorumSystem.size q) m.client known) (asking_drops K x m c.args.kind c.in-Asking-default.value-0 (members c.in-Asking-default.told-0) c.in-Asking-default.highest-0 phase_is other); unheard = λ _. refl }
 
 pub returns-in-Storing-Ack : goal.returns-in-Storing-Ack
@@ -58,7 +58,7 @@ returns-in-Storing-default g c =
     let known = view g.S.Timestamp.above d (g.Q.QuorumSystem.size q) p in
     let x = client_of c.args.self.now known in
     let phase_is : x.phase ≡ storing c.in-Storing-default.timestamp-0 c.in-Storing-default.value-0 (members c.in-Storing-default.acknowledged-0) = ap (λ f. phase_of f known) c.in-Storing-default.is-0 in
-    let other : c.args.kind ≡ Ack → ⊥ = search rules in
+    let other : c.args.kind ≡ Ack → ⊥ = search general_rules in
     record { weighed = weigh_unchanged K d p m c.args.room c.unchanged-in-Storing-default.result (awaited K c.args.kind x m) x (c.unchanged-in-Storing-default.ensures (g.Q.QuorumSystem.size q) m.client known) (storing_drops K x m c.args.kind c.in-Storing-default.timestamp-0 c.in-Storing-default.value-0 (members c.in-Storing-default.acknowledged-0) phase_is other); unheard = λ _. refl }
 
 pub returns-in-Reading-default : goal.returns-in-Reading-default
@@ -71,7 +71,7 @@ returns-in-Reading-default g c =
     let known = view g.S.Timestamp.above d (g.Q.QuorumSystem.size q) p in
     let x = client_of c.args.self.now known in
     let phase_is : x.phase ≡ reading known = ap (λ f. phase_of f known) c.in-Reading-default.is-0 in
-    let other : c.args.kind ≡ Value → ⊥ = search rules in
+    let other : c.args.kind ≡ Value → ⊥ = search general_rules in
     record { weighed = weigh_unchanged K d p m c.args.room c.unchanged-in-Reading-default.result (awaited K c.args.kind x m) x (c.unchanged-in-Reading-default.ensures (g.Q.QuorumSystem.size q) m.client known) (reading_drops K x m c.args.kind known phase_is other); unheard = λ _. refl }
 
 pub returns-in-Idle-default : goal.returns-in-Idle-default
