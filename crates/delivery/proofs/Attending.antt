@@ -20,11 +20,11 @@ use Rattle.protocol.specs.Settings.{Setting}
 use Rattle.protocol.specs.Clients as protocol
 use Rattle.protocol.specs.Clients.{takes}
 use Rattle.client.specs.Showing.{client_of}
-use Rattle.client.specs.Taking.{expected, TakenIn}
+use Rattle.client.specs.Taking.{hears_value, expected, TakenIn}
 use Rattle.client.specs.declared.state.Client.{Client}
 use Rattle.client.specs.declared.state.Dispatch.{Dispatch}
 use Rattle.delivery.specs.Memory.{part, new_client}
-use Rattle.delivery.specs.Parts.{clients_in, client_takes, Attended}
+use Rattle.delivery.specs.Parts.{clients_in, client_takes, ClientsKept, Attended}
 use Rattle.delivery.proofs.Parts.{part_own, part_other, part_kept, length-put_mid}
 
 module _ {S V : Type 0} (K : Setting S V) (m : ℕ) (cs : List (Client S V)) (ps : List (Report S V)) (c : ℕ) (within : c < m) (there : c < length cs)
@@ -88,6 +88,22 @@ module _ {S V : Type 0} (K : Setting S V) (m : ℕ) (cs : List (Client S V)) (ps
       ap not (and_from (leb (K.rules.n * (K.rules.n + 1)) (length known)) (ltb message.server K.rules.n)
       (le-leb (K.rules.n * (K.rules.n + 1)) (length known) (omega (arith, long))) (lt-ltb message.server K.rules.n server))
 
+  -- a changed client and its changed reports leave the rest of the memory as it was
+  pub kept : (x' : Client S V) (p' : List (Report S V)) → length p' ≡ K.rules.n * (K.rules.n + 1) → (hears_value own message kind ≡ false → p' ≡ known)
+      → ClientsKept K m cs ps message kind (set cs message.client x') (put_mid (message.client * (K.rules.n * (K.rules.n + 1))) (K.rules.n * (K.rules.n + 1)) ps p')
+  kept x' p' same unheard =
+      let size = K.rules.n * (K.rules.n + 1) in
+      record {
+        clients_rest = drop-set-lt m cs message.client x' within;
+        reports_only = record {
+          before = take-put_mid_below (message.client * size) size ps p' (message.client * size) (omega arith) (omega arith);
+          behind = drop-put_mid (message.client * size) size ps p' (message.client * size + size) (omega arith) (omega arith) same;
+        };
+        unheard = λ deaf. ap (put_mid (message.client * size) size ps) (unheard deaf) ∙ part_kept (message.client * size) size ps;
+        clients_length = length-set cs message.client x';
+        reports_length = length-put_mid (message.client * size) size ps p' inside same;
+      }
+
   -- what a client's call promises of its part, it promises of the whole
   pub attended : (r : Result (Answer S V × Dispatch S V) Refusal) (x' : Client S V) (p' : List (Report S V)) → length p' ≡ K.rules.n * (K.rules.n + 1)
       → TakenIn K (blank K.lowest K.initial) own known message kind room r x' p'
@@ -101,20 +117,10 @@ module _ {S V : Type 0} (K : Setting S V) (m : ℕ) (cs : List (Client S V)) (ps
       let counted = ap (λ o. length o.sent) takes_as in
       record {
         fits = omega (arith, few, counted);
-        known-after = record {
-          clients_after =
-              clients_put K m cs ps message.client within there inside x' p' same
-              ∙ ap (updated (clients_in K m cs ps) message.client) (ap (λ o. o.after) taken.1 ∙ ap (λ o. o.after) takes_as);
-          clients_rest = drop-set-lt m cs message.client x' within;
-          reports_only = record {
-            before = take-put_mid_below (message.client * size) size ps p' (message.client * size) (omega arith) (omega arith);
-            behind = drop-put_mid (message.client * size) size ps p' (message.client * size + size) (omega arith) (omega arith) same;
-          };
-          unheard = λ deaf. ap (put_mid (message.client * size) size ps) (taken.3 deaf) ∙ part_kept (message.client * size) size ps;
-          clients_length = length-set cs message.client x';
-          reports_length = length-put_mid (message.client * size) size ps p' inside same;
-          answer_is = ap (λ o. o.answer) taken.1 ∙ ap (λ o. o.answer) takes_as;
-        };
+        clients_after =
+            clients_put K m cs ps message.client within there inside x' p' same
+            ∙ ap (updated (clients_in K m cs ps) message.client) (ap (λ o. o.after) taken.1 ∙ ap (λ o. o.after) takes_as);
+        answer_is = ap (λ o. o.answer) taken.1 ∙ ap (λ o. o.answer) takes_as;
         sent_is = ap (λ o. o.sent) taken.1 ∙ ap (λ o. o.sent) takes_as;
       }
   attended (Err refusal) x' p' same taken =

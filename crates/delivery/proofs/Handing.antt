@@ -154,20 +154,20 @@ module _ {S V : Type 0} (K : Setting S V) (faulty : ServerSet) (ss : List (Serve
               ∙ ap (λ y. y.state) (sym reply_is);
           enough_after =
               enough_kept K net.len net'.len (lent ss cs ls memory ps) (lent ss cs' ls memory' ps')
-              (λ i. record { servers = length ss; clients = known.clients_length i; listeners = length ls; messages = done.length_after i; reports = known.reports_length i })
+              (λ i. record { servers = length ss; clients = known.clients_kept.clients_length i; listeners = length ls; messages = done.length_after i; reports = known.clients_kept.reports_length i })
               (len_fits net' memory' o.sent done few) was;
           rest_after = record {
             servers_rest = refl;
-            clients_rest = known.clients_rest;
+            clients_rest = known.clients_kept.clients_rest;
             listeners_rest = refl;
             messages_rest = done.rest_after;
-            reports_rest = drop_later ps' ps (message.client * size + size) (K.client_count * size) (part_end message.client K.client_count size within) known.reports_only.behind;
+            reports_rest = drop_later ps' ps (message.client * size + size) (K.client_count * size) (part_end message.client K.client_count size within) known.clients_kept.reports_only.behind;
           };
           refused_kept = λ e r_is. absurd (takes_not K kind (before.clients message.client) message e (ap (λ y. y.answer) (sym o_is) ∙ sym known.answer_is ∙ r_is));
         };
         reports_after = record {
-          only = record { before = known.reports_only.before; behind = known.reports_only.behind };
-          unheard = λ deaf. known.unheard (heard_by within kind_is deaf);
+          only = record { before = known.clients_kept.reports_only.before; behind = known.clients_kept.reports_only.behind };
+          unheard = λ deaf. known.clients_kept.unheard (heard_by within kind_is deaf);
         };
       }
     where
@@ -200,12 +200,12 @@ module _ {S V : Type 0} (K : Setting S V) (faulty : ServerSet) (ss : List (Serve
           ∙ ap (λ y. y.state) (sym reply_is);
       enough_after =
           enough_kept K net.len net'.len (lent ss cs ls memory ps) (lent ss' cs ls' memory' ps)
-          (λ i. record { servers = held.servers_length i; clients = length cs; listeners = held.listeners_length i; messages = done.length_after i; reports = length ps })
+          (λ i. record { servers = held.servers_kept.servers_length i; clients = length cs; listeners = held.servers_kept.listeners_length i; messages = done.length_after i; reports = length ps })
           (len_fits net' memory' (at_server K before message).sent done few) was;
       rest_after = record {
-        servers_rest = held.servers_rest;
+        servers_rest = held.servers_kept.servers_rest;
         clients_rest = refl;
-        listeners_rest = held.listeners_rest;
+        listeners_rest = held.servers_kept.listeners_rest;
         messages_rest = done.rest_after;
         reports_rest = refl;
       };

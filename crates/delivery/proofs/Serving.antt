@@ -16,7 +16,7 @@ use Rattle.server.specs.Receiving.{state_of, receive_checks, reacts, Received}
 use Rattle.server.specs.declared.state.Listener.{Listener}
 use Rattle.server.specs.declared.state.Server.{Server}
 use Rattle.delivery.specs.Memory.{part, new_server, servers_of}
-use Rattle.delivery.specs.Parts.{server_reacts, server_refuses, Served}
+use Rattle.delivery.specs.Parts.{server_reacts, server_refuses, ServersKept, Served}
 use Rattle.delivery.proofs.Parts.{part_end, part_own, part_other, part_kept, length-put_mid}
 
 module _ {S V : Type 0} (above : S → S → Bool) (lowest : S) (initial : V) (n m : ℕ) (ss : List (Server S V)) (ls : List (Listener S)) (b : ℕ) (within : b < n) (there : b < length ss) (inside : b * m + m ≤ length ls) where
@@ -61,6 +61,16 @@ module _ {S V : Type 0} (above : S → S → Bool) (lowest : S) (initial : V) (n
   refuses_as : first_failed (receive_checks net (length memory) (length row) message.client (length (reacts above lowest initial faulty own row message).sent)) ≡ server_refuses above lowest initial n m faulty ss ls net memory message
   refuses_as = ap₂ (λ k r. first_failed (receive_checks net (length memory) k message.client (length r.sent))) long reacts_as
 
+  -- a changed server and its changed part leave the rest of the memory as it was
+  pub kept : (server' : Server S V) (row' : List (Listener S)) → length row' ≡ m
+      → ServersKept above lowest initial n m ss ls (set ss message.server server') (put_mid (message.server * m) m ls row')
+  kept server' row' same = record {
+    servers_rest = drop-set-lt n ss message.server server' within;
+    listeners_rest = drop-put_mid (message.server * m) m ls row' (n * m) (part_end message.server n m within) (omega arith) same;
+    servers_length = length-set ss message.server server';
+    listeners_length = length-put_mid (message.server * m) m ls row' inside same;
+  }
+
   -- what a server's call promises of its part, it promises of the whole
   pub served : (r : Result Unit Refusal) (server' : Server S V) (row' : List (Listener S)) (net' : Network) (memory' : List (Message S V)) → length row' ≡ m
       → Received above lowest initial faulty own row net memory message r server' row' net' memory'
@@ -68,15 +78,9 @@ module _ {S V : Type 0} (above : S → S → Bool) (lowest : S) (initial : V) (n
   served (Ok u) server' row' net' memory' same received = (
     sym refuses_as ∙ received.0,
     record {
-      held_after = record {
-        servers_after =
-            servers_put above lowest initial n m ss ls message.server within there inside server' row' same
-            ∙ ap (updated (servers_of above lowest initial n m ss ls) message.server) (received.1.state_after ∙ ap (λ r. r.after) reacts_as);
-        servers_rest = drop-set-lt n ss message.server server' within;
-        listeners_rest = drop-put_mid (message.server * m) m ls row' (n * m) (part_end message.server n m within) (omega arith) same;
-        servers_length = length-set ss message.server server';
-        listeners_length = length-put_mid (message.server * m) m ls row' inside same;
-      };
+      servers_after =
+          servers_put above lowest initial n m ss ls message.server within there inside server' row' same
+          ∙ ap (updated (servers_of above lowest initial n m ss ls) message.server) (received.1.state_after ∙ ap (λ r. r.after) reacts_as);
       sent_after =
           let P : Reaction S V → Type 0 = λ r. Sent net memory r.sent net' memory' in
           subst P reacts_as received.1.sent_after;

@@ -17,7 +17,7 @@ use Rattle.client.specs.Showing.{messages_of}
 use Rattle.client.specs.Sending.{Dispatched}
 use Rattle.client.specs.declared.state.Client.{Client}
 use Rattle.client.specs.declared.state.Dispatch.{Dispatch}
-use Rattle.delivery.specs.Parts.{server_reacts, Served, client_takes, AttendedBy}
+use Rattle.delivery.specs.Parts.{server_reacts, ServersKept, Served, client_takes, ClientsKept, AttendedBy}
 use Rattle.delivery.specs.Handing.{room_without, Replaced, ServedOn, ToServer, ToClient}
 use Rattle.delivery.proofs.Queues.{room_settled, replaced, restored_as, length-messages, dispatched_sent, receive_passes}
 
@@ -25,10 +25,10 @@ use Rattle.delivery.proofs.Queues.{room_settled, replaced, restored_as, length-m
 pub sent_on : {S V : Type 0} (n client : ℕ) (x : Dispatch S V) (net net' net'' : Network) (memory memory' memory'' : List (Message S V)) (r : Result Unit Refusal) (place : ℕ)
     → fits net (length memory) ≡ true → net' ≡ settled net (length memory) → memory' ≡ closed_up net memory → Dispatched n client x net' memory' r net'' memory''
     → net.lifted ≡ Some place → length (messages_of n client x) ≤ room_without net → Replaced net memory place (messages_of n client x) net'' memory''
-sent_on n client x net net' net'' memory memory' memory'' r place fit net-is memory-is sent is small =
+sent_on n client x net net' net'' memory memory' memory'' r place fit net_is memory_is sent is small =
     let counted = length-messages n client x in
-    let room = room_settled net memory place fit is net' memory' _ net-is memory-is (omega (arith, counted, small)) in
-    replaced net memory place fit is net' net'' memory' memory'' (messages_of n client x) net-is memory-is (dispatched_sent n client x net' net'' memory' memory'' r room sent)
+    let room = room_settled net memory place fit is net' memory' _ net_is memory_is (omega (arith, counted, small)) in
+    replaced net memory place fit is net' net'' memory' memory'' (messages_of n client x) net_is memory_is (dispatched_sent n client x net' net'' memory' memory'' r room sent)
 
 module _ {S V : Type 0} (above : S → S → Bool) (lowest : S) (initial : V) (n m : ℕ) (faulty : Bool) (ss : List (Server S V)) (ls : List (Listener S)) (net : Network) (memory : List (Message S V)) (message : Message S V)
     (fit : fits net (length memory) ≡ true) where
@@ -36,14 +36,15 @@ module _ {S V : Type 0} (above : S → S → Bool) (lowest : S) (initial : V) (n
   pub served_on : (net' net'' : Network) (memory' memory'' : List (Message S V)) (r : Result Unit Refusal) (ss' : List (Server S V)) (ls' : List (Listener S))
       → m ≤ 64 → message.client < m → net' ≡ settled net (length memory) → memory' ≡ closed_up net memory
       → Served above lowest initial n m faulty ss ls net' memory' message r ss' ls' net'' memory''
+      → ServersKept above lowest initial n m ss ls ss' ls'
       → ServedOn above lowest initial n m faulty ss ls net memory message ss' ls' net'' memory''
-  served_on net' net'' memory' memory'' (Ok u) ss' ls' few there net-is memory-is served place is small = (
-    served.1.held_after,
-    replaced net memory place fit is net' net'' memory' memory'' (server_reacts above lowest initial n m faulty ss ls message).sent net-is memory-is served.1.sent_after,
+  served_on net' net'' memory' memory'' (Ok u) ss' ls' few there net_is memory_is served kept place is small = (
+    record { servers_after = served.1.servers_after; servers_kept = kept },
+    replaced net memory place fit is net' net'' memory' memory'' (server_reacts above lowest initial n m faulty ss ls message).sent net_is memory_is served.1.sent_after,
   )
-  served_on net' net'' memory' memory'' (Err e) ss' ls' few there net-is memory-is served place is small =
+  served_on net' net'' memory' memory'' (Err e) ss' ls' few there net_is memory_is served kept place is small =
       let more = length (server_reacts above lowest initial n m faulty ss ls message).sent in
-      let room = room_settled net memory place fit is net' memory' more net-is memory-is small in
+      let room = room_settled net memory place fit is net' memory' more net_is memory_is small in
       let clash : ◌≡◌ {A = Option Refusal} None (Some e) = sym (receive_passes net' (length memory') m message.client more room few there) ∙ served.0 in
       let z : ◌≡◌ {A = ℕ} 0 1 = cc in
       absurd (omega arith)
@@ -81,12 +82,13 @@ module _ {S V : Type 0} (K : Setting S V) (m : ℕ) (cs : List (Client S V)) (ps
   -- within the room: taken
   pub client_fits : (room : ℕ) (given : Answer S V × Dispatch S V) (cs' : List (Client S V)) (ps' : List (Report S V)) (net' : Network) (memory' : List (Message S V)) → room ≡ room_without net
       → AttendedBy K m cs ps message kind room given cs' ps'
+      → ClientsKept K m cs ps message kind cs' ps'
       → (length (messages_of K.rules.n message.client given.1) ≤ room_without net → Replaced net memory place (messages_of K.rules.n message.client given.1) net' memory')
       → ToClient K m cs ps net memory message kind place given.0 cs' ps' net' memory'
-  client_fits room given cs' ps' net' memory' room_is attended sent = record {
+  client_fits room given cs' ps' net' memory' room_is attended kept sent = record {
     full = λ t. let many = ltb-true (room_without net) (length (client_takes K m cs ps message kind).sent) t in absurd (omega (arith, many, attended.fits, room_is));
     fitting = λ _.
         let counted = ap length attended.sent_is in
         let P : List (Message S V) → Type 0 = λ l. Replaced net memory place l net' memory' in
-        (attended.known-after, subst P attended.sent_is (sent (omega (arith, counted, attended.fits, room_is))));
+        (record { clients_after = attended.clients_after; clients_kept = kept; answer_is = attended.answer_is }, subst P attended.sent_is (sent (omega (arith, counted, attended.fits, room_is))));
   }

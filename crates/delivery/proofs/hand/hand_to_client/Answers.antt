@@ -17,7 +17,7 @@ returns-in-Ok g c m place within is =
     let P : ℕ → Type 0 = λ n. length (messages_of n u given.1) ≤ room_without net → Replaced net memory place (messages_of n u given.1) c.settle_and_send.new.network c.settle_and_send.new.messages in
     client_fits K m c.args.clients.now c.args.reports.now net memory c.args.message c.args.kind place c.requires.fits is
     c.room_without-room.result given c.attend.new.clients c.attend.new.reports c.settle_and_send.new.network c.settle_and_send.new.messages
-    c.room_without-room.ensures (c.in-Ok.ensures m within) (subst P c.servers.ensures (c.settle_and_send.ensures place is))
+    c.room_without-room.ensures (c.in-Ok.ensures.attended m within) (c.in-Ok.ensures.kept m within) (subst P c.servers.ensures (c.settle_and_send.ensures place is))
 
 pub returns-in-Err : goal.returns-in-Err
 returns-in-Err g c m place within is =
@@ -25,4 +25,4 @@ returns-in-Err g c m place within is =
     let K = setting 0 0 0 (rules (g.Q.QuorumSystem.size q) (g.Q.QuorumSystem.quorum q) (g.Q.QuorumSystem.fail_prone q) g.S.Timestamp.above g.V.Value.same) g.S.Timestamp.owner g.S.Timestamp.lowest g.S.Timestamp.successor g.V.Value.initial_value in
     client_full K m c.args.clients.now c.args.reports.now c.args.network.now c.args.messages.now c.args.message c.args.kind place c.requires.fits is
     c.room_without-room.result c.in-Err.refusal c.refuse.result c.attend.new.clients c.attend.new.reports c.refuse.new.network
-    c.room_without-room.ensures (c.in-Err.ensures m within) c.refuse.ensures.answer c.refuse.ensures.network
+    c.room_without-room.ensures (c.in-Err.ensures.attended m within) c.refuse.ensures.answer c.refuse.ensures.network

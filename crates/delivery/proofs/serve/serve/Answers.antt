@@ -5,8 +5,8 @@ use Rattle.std.proofs.lemmas.List.{length-take-le, length-drop, get_or_default}
 use Rattle.server.specs.Receiving.{Received}
 use Rattle.server.specs.declared.state.Server.{Server}
 use Rattle.delivery.specs.Memory.{part, new_server}
-use Rattle.delivery.specs.Parts.{Served}
-use Rattle.delivery.proofs.Serving.{served}
+use Rattle.delivery.specs.Parts.{ServersKept, Served}
+use Rattle.delivery.proofs.Serving.{kept, served}
 use Rattle.delivery.proofs.serve.serve.Goals as goal
 
 pub overflow_mul-first : goal.overflow_mul-first
@@ -23,8 +23,8 @@ offset_bounds-listeners-first g c =
 pub slice_bounds-receive-end : goal.slice_bounds-receive-end
 slice_bounds-receive-end g c = omega (arith, c.requires.row)
 
-pub returns : goal.returns
-returns g c n few =
+pub returns-clause-served : goal.returns-clause-served
+returns-clause-served g c n few =
     let above = g.S.Timestamp.above in
     let lowest = g.S.Timestamp.lowest in
     let initial = g.V.Value.initial_value in
@@ -41,10 +41,26 @@ returns g c n few =
     Received above lowest initial c.args.faulty x (take k (drop (b * m) ls)) c.args.network.now c.args.memory.now c.args.message c.receive.result
     c.receive.new.self c.receive.new.listeners c.receive.new.network c.receive.new.memory in
     let received : R (get_or ss b (new_server lowest initial)) m = subst (λ k. R (get_or ss b (new_server lowest initial)) k) width (subst (λ x. R x (b * m + m - b * m)) given c.receive.ensures) in
-    let kept : length c.receive.new.listeners ≡ m = search rules in
+    let same : length c.receive.new.listeners ≡ m = search rules in
     let P : ℕ → Type 0 = λ k.
     Served above lowest initial n m c.args.faulty ss ls c.args.network.now c.args.memory.now c.args.message c.receive.result
     (set ss b c.receive.new.self) (put_mid (b * m) k ls c.receive.new.listeners) c.receive.new.network c.receive.new.memory in
     subst P (sym width)
     (served above lowest initial n m c.args.faulty ss ls c.args.network.now c.args.memory.now c.args.message few c.requires.within inside long
-    c.receive.result c.receive.new.self c.receive.new.listeners c.receive.new.network c.receive.new.memory kept received)
+    c.receive.result c.receive.new.self c.receive.new.listeners c.receive.new.network c.receive.new.memory same received)
+
+pub returns-clause-kept : goal.returns-clause-kept
+returns-clause-kept g c n few =
+    let ss = c.args.servers.now in
+    let ls = c.args.listeners.now in
+    let b = c.args.message.server in
+    let m = c.args.clients in
+    let inside : b * m + m ≤ length ls = c.requires.row in
+    let width : b * m + m - b * m ≡ m = omega arith in
+    let rest : length (drop (b * m) ls) ≡ length ls - b * m = length-drop (b * m) ls in
+    let long : length (part m ls b) ≡ m = length-take-le m (drop (b * m) ls) (omega arith) in
+    let same : length c.receive.new.listeners ≡ m = search rules in
+    let P : ℕ → Type 0 = λ k. ServersKept g.S.Timestamp.above g.S.Timestamp.lowest g.V.Value.initial_value n m ss ls (set ss b c.receive.new.self) (put_mid (b * m) k ls c.receive.new.listeners) in
+    subst P (sym width)
+    (kept g.S.Timestamp.above g.S.Timestamp.lowest g.V.Value.initial_value n m c.args.faulty ss ls c.args.network.now c.args.memory.now c.args.message few c.requires.within inside long
+    c.receive.new.self c.receive.new.listeners same)
