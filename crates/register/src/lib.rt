@@ -1,5 +1,6 @@
 // The register: servers, clients and network together, in memory that the caller lends to each call.
 #![tactic(auto)]
+
 pub mod answer;
 mod begin;
 pub mod faults;
