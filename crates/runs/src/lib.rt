@@ -1,3 +1,4 @@
 // A whole run of a register.
 #![tactic(auto)]
+
 pub mod play;

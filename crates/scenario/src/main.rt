@@ -1,5 +1,6 @@
 // A run of a register that is told call by call: a read meets a write while one server lies.
 #![tactic(auto)]
+
 mod script;
 mod stage;
 mod words;

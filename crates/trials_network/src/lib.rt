@@ -1,4 +1,5 @@
 // Tests of messages and of the network that holds them.
 #![tactic(auto)]
+
 #[cfg(test)]
 mod tests;

@@ -1,5 +1,6 @@
 // Tests of sets of servers and of quorum systems.
 #![tactic(auto)]
+
 #[cfg(test)]
 mod listed;
 #[cfg(test)]

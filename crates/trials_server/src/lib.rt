@@ -1,5 +1,6 @@
 // Tests of one server.
 #![tactic(auto)]
+
 #[cfg(test)]
 mod fixture;
 #[cfg(test)]

@@ -1,5 +1,6 @@
 // Tests of timestamps and values.
 #![tactic(auto)]
+
 #[cfg(test)]
 mod alike;
 #[cfg(test)]
