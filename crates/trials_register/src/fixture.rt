@@ -9,6 +9,7 @@ use quorums::threshold::Threshold;
 use reading::reports::Report;
 use register::record::Register;
 use server::state::{Listener, Server};
+use std::process::Abort;
 use std::test::*;
 use timestamps::Timestamp;
 use timestamps::packed::Packed;
@@ -123,10 +124,10 @@ impl Fixture {
     }
 
     // A call is refused with this number, and nothing changes.
-    pub(crate) fn refuses(&mut self, call: Step, number: u8) -> Result<(), Fail> {
+    pub(crate) fn refuses(&mut self, rt: &impl Abort, call: Step, number: u8) -> Result<(), Fail> {
         let before = *self;
-        assert_eq!(self.ask(call), Said::Refused(number));
-        assert!(self.is_like(&before));
+        assert_eq!(rt; self.ask(call), Said::Refused(number));
+        assert!(rt; self.is_like(&before));
         Ok(())
     }
 
@@ -211,9 +212,9 @@ impl Fixture {
     }
 
     // What stands at a place of the queue.
-    pub(crate) fn holds(&self, place: usize, message: Note) -> Result<(), Fail> {
-        assert!(place < self.register.len && place < CAPACITY);
-        assert!(self.messages[place].is_like(&message));
+    pub(crate) fn holds(&self, rt: &impl Abort, place: usize, message: Note) -> Result<(), Fail> {
+        assert!(rt; place < self.register.len && place < CAPACITY);
+        assert!(rt; self.messages[place].is_like(&message));
         Ok(())
     }
 }

@@ -132,7 +132,7 @@ fn servers_past_the_last_do_not_count(rt: HostRuntime) -> Result<(), Fail> {
     }
     assert_eq!(rt; fixture.hand(note(0, 2, 2, 7, 0, 0)), Said::Taken);
     assert_eq!(rt; phase_in_numbers(fixture.client(0).phase), (2, 10, 0, 128));
-    fixture.holds(0, note(0, 0, 3, 7, 128, 10))
+    fixture.holds(&rt, 0, note(0, 0, 3, 7, 128, 10))
 }
 
 #[test]

@@ -1,5 +1,6 @@
 // Tests of a whole register: what it refuses, how much room it needs, and what its servers and clients do.
 #![tactic(auto)]
+
 #[cfg(test)]
 mod alike;
 #[cfg(test)]

@@ -31,7 +31,7 @@ fn first_read_gives_the_initial_pair(rt: HostRuntime) -> Result<(), Fail> {
         assert_eq!(rt; fixture.ask(deliver(0)), Said::Taken);
     }
     assert!(rt; !fixture.listens());
-    fixture.refuses(deliver(0), 10)
+    fixture.refuses(&rt, deliver(0), 10)
 }
 
 // A read of client 1 hears VALUEs, each with its server, number, timestamp, total and answer.
@@ -123,10 +123,10 @@ fn store_is_passed_on_from_the_start_of_listening(rt: HostRuntime) -> Result<(),
             Said::Taken
         );
         assert_eq!(rt; fixture.register.len, sent);
-        fixture.holds(0, note(0, 0, ACK, 9, timestamp, 0))?;
+        fixture.holds(&rt, 0, note(0, 0, ACK, 9, timestamp, 0))?;
         if sent == 3 {
-            fixture.holds(1, note(0, 0, VALUE, 3, timestamp, 10))?;
-            fixture.holds(2, note(1, 0, VALUE, 3, timestamp, 10))?;
+            fixture.holds(&rt, 1, note(0, 0, VALUE, 3, timestamp, 10))?;
+            fixture.holds(&rt, 2, note(1, 0, VALUE, 3, timestamp, 10))?;
         }
         assert_eq!(rt; fixture.held(0), (timestamp, 10));
     }
@@ -170,5 +170,5 @@ fn faulty_server_does_nothing_and_what_it_sent_before_counts(rt: HostRuntime) ->
     assert_eq!(rt; fixture.held(2), (0, 0));
     assert!(rt; !fixture.listens());
     assert_eq!(rt; fixture.ask(deliver(0)), Said::Taken);
-    fixture.holds(3, note(0, 3, STORE, 2, 128, 1250))
+    fixture.holds(&rt, 3, note(0, 3, STORE, 2, 128, 1250))
 }

@@ -39,7 +39,7 @@ fn memory_goes_before_all_else(rt: HostRuntime) -> Result<(), Fail> {
 }
 
 #[test]
-fn beginning_checks_client_then_phase_then_number_then_room() -> Result<(), Fail> {
+fn beginning_checks_client_then_phase_then_number_then_room(rt: HostRuntime) -> Result<(), Fail> {
     // clients in the record, phase of client 1, its number, messages in the queue of twelve, refusal
     let states = [
         (1, Phase::Reading, MOST, CAPACITY, 5),
@@ -61,14 +61,14 @@ fn beginning_checks_client_then_phase_then_number_then_room() -> Result<(), Fail
                     phase,
                 },
             );
-            fixture.refuses(call, refused)?;
+            fixture.refuses(&rt, call, refused)?;
         }
     }
     Ok(())
 }
 
 #[test]
-fn delivery_checks_place_then_names_then_room() -> Result<(), Fail> {
+fn delivery_checks_place_then_names_then_room(rt: HostRuntime) -> Result<(), Fail> {
     // place, client, server, kind, refusal: at its server a STORE brings an ACK and two VALUEs
     let deliveries = [
         (12, 9, 9, 0, 10),
@@ -85,7 +85,7 @@ fn delivery_checks_place_then_names_then_room() -> Result<(), Fail> {
         fixture.register.len = 11;
         fixture.listens_from(64);
         fixture.post(note(client, server, kind, 1, 64, 1250));
-        fixture.refuses(deliver(place), refused)?;
+        fixture.refuses(&rt, deliver(place), refused)?;
     }
     Ok(())
 }
@@ -93,10 +93,10 @@ fn delivery_checks_place_then_names_then_room() -> Result<(), Fail> {
 #[test]
 fn place_past_the_queue_has_no_message(rt: HostRuntime) -> Result<(), Fail> {
     let mut fixture = Fixture::new()?;
-    fixture.refuses(deliver(0), 10)?;
+    fixture.refuses(&rt, deliver(0), 10)?;
     fixture.post(note(0, 0, 1, 1, 0, 0));
-    fixture.refuses(deliver(1), 10)?;
-    fixture.refuses(deliver(usize::MAX), 10)?;
+    fixture.refuses(&rt, deliver(1), 10)?;
+    fixture.refuses(&rt, deliver(usize::MAX), 10)?;
     assert_eq!(rt; fixture.ask(deliver(0)), Said::Taken);
     Ok(())
 }
@@ -114,7 +114,7 @@ fn turn_checks_the_server_then_the_faulty_servers(rt: HostRuntime) -> Result<(),
     ] {
         let mut fixture = Fixture::new()?;
         fixture.register.faulty = ServerSet { mask };
-        fixture.refuses(turn(server), refused)?;
+        fixture.refuses(&rt, turn(server), refused)?;
     }
     let mut fixture = Fixture::new()?;
     assert_eq!(rt; fixture.ask(turn(3)), Said::Turned);
@@ -126,7 +126,9 @@ fn turn_checks_the_server_then_the_faulty_servers(rt: HostRuntime) -> Result<(),
 }
 
 #[test]
-fn forging_checks_server_then_client_then_fault_then_kind_then_room() -> Result<(), Fail> {
+fn forging_checks_server_then_client_then_fault_then_kind_then_room(
+    rt: HostRuntime,
+) -> Result<(), Fail> {
     // server, client, kind, refusal: server 3 is faulty, and the queue is full
     for (server, client, kind, refused) in [
         (4, 2, 1, 6),
@@ -148,7 +150,7 @@ fn forging_checks_server_then_client_then_fault_then_kind_then_room() -> Result<
         let mut fixture = Fixture::new()?;
         fixture.register.faulty = ServerSet { mask: 0b1000 };
         fixture.register.len = CAPACITY;
-        fixture.refuses(forge(server, client, kind), refused)?;
+        fixture.refuses(&rt, forge(server, client, kind), refused)?;
     }
     Ok(())
 }
@@ -160,8 +162,8 @@ fn forged_message_stands_behind_the_others_as_given(rt: HostRuntime) -> Result<(
         fixture.register.faulty = ServerSet { mask: 0b1000 };
         fixture.register.len = 11;
         assert_eq!(rt; fixture.ask(forge(3, 1, kind)), Said::Forged);
-        fixture.holds(11, note(1, 3, kind, 5, 640, 99))?;
-        fixture.refuses(forge(3, 1, kind), 9)?;
+        fixture.holds(&rt, 11, note(1, 3, kind, 5, 640, 99))?;
+        fixture.refuses(&rt, forge(3, 1, kind), 9)?;
     }
     Ok(())
 }

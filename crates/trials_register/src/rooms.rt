@@ -1,5 +1,5 @@
 // How much room each call needs: one message too many in the queue, and it is refused.
-use crate::fixture::{Fixture, note};
+use crate::fixture::{Fixture, Note, note};
 use crate::says::{Said, deliver, read, write};
 use client::state::{Client, Phase};
 use quorums::sets::ServerSet;
@@ -27,14 +27,14 @@ fn beginning_needs_a_place_for_each_server(rt: HostRuntime) -> Result<(), Fail> 
     for (call, kind) in [(write(1), QUERY), (read(1), READ)] {
         let mut fixture = Fixture::new()?;
         fixture.register.len = 9;
-        fixture.refuses(call, 9)?;
+        fixture.refuses(&rt, call, 9)?;
         fixture.register.len = 8;
         assert_eq!(rt; fixture.ask(call), Said::Begun(1, 1));
         assert!(rt; fixture.register.len == 12);
-        fixture.holds(8, note(1, 0, kind, 1, 0, 0))?;
-        fixture.holds(9, note(1, 1, kind, 1, 0, 0))?;
-        fixture.holds(10, note(1, 2, kind, 1, 0, 0))?;
-        fixture.holds(11, note(1, 3, kind, 1, 0, 0))?;
+        fixture.holds(&rt, 8, note(1, 0, kind, 1, 0, 0))?;
+        fixture.holds(&rt, 9, note(1, 1, kind, 1, 0, 0))?;
+        fixture.holds(&rt, 10, note(1, 2, kind, 1, 0, 0))?;
+        fixture.holds(&rt, 11, note(1, 3, kind, 1, 0, 0))?;
     }
     Ok(())
 }
@@ -53,9 +53,9 @@ fn last_number_is_used_and_then_none(rt: HostRuntime) -> Result<(), Fail> {
         let mut fixture = Fixture::new()?;
         fixture.put_client(0, idle(4_294_967_294));
         assert_eq!(rt; fixture.ask(call), Said::Begun(0, 4_294_967_295));
-        fixture.refuses(call, 7)?;
+        fixture.refuses(&rt, call, 7)?;
         fixture.put_client(0, idle(4_294_967_295));
-        fixture.refuses(call, 8)?;
+        fixture.refuses(&rt, call, 8)?;
     }
     Ok(())
 }
@@ -66,7 +66,7 @@ fn needs(rt: &impl Abort, before: &Fixture, message: Note, most: usize) -> Resul
     let mut fixture = *before;
     fixture.register.len = most;
     fixture.post(message);
-    fixture.refuses(deliver(most), 9)?;
+    fixture.refuses(rt, deliver(most), 9)?;
     fixture.register.len = most - 1;
     fixture.post(message);
     assert_eq!(rt; fixture.ask(deliver(most - 1)), Said::Taken);
@@ -134,13 +134,13 @@ fn last_value_of_a_read_waits_for_room(rt: HostRuntime) -> Result<(), Fail> {
     }
     // nine others and the VALUE: two places, three with its own
     fixture.post(note(1, 2, VALUE, 1, 64, 10));
-    fixture.refuses(deliver(9), 9)?;
-    fixture.holds(9, note(1, 2, VALUE, 1, 64, 10))?;
+    fixture.refuses(&rt, deliver(9), 9)?;
+    fixture.holds(&rt, 9, note(1, 2, VALUE, 1, 64, 10))?;
     assert_eq!(rt; fixture.ask(deliver(0)), Said::Taken);
     assert_eq!(rt; fixture.ask(deliver(8)), Said::Read(1, 1, 64, 10));
     assert!(rt; fixture.register.len == 12);
     for server in 0..4 {
-        fixture.holds(8 + server as usize, note(1, server, STOP, 1, 0, 0))?;
+        fixture.holds(&rt, 8 + server as usize, note(1, server, STOP, 1, 0, 0))?;
     }
     Ok(())
 }
@@ -158,5 +158,5 @@ fn value_that_ends_nothing_needs_no_room(rt: HostRuntime) -> Result<(), Fail> {
     }
     assert_eq!(rt; fixture.hand(note(1, 2, VALUE, 1, 64, 11)), Said::Taken);
     fixture.post(note(1, 3, VALUE, 1, 64, 10));
-    fixture.refuses(deliver(11), 9)
+    fixture.refuses(&rt, deliver(11), 9)
 }

@@ -23,7 +23,7 @@ fn write_is_finished_with_the_third_ack(rt: HostRuntime) -> Result<(), Fail> {
     }
     assert_eq!(rt; fixture.ask(deliver(0)), Said::Wrote(0, 1, 64));
     assert_eq!(rt; fixture.ask(deliver(0)), Said::Taken);
-    fixture.refuses(deliver(0), 10)?;
+    fixture.refuses(&rt, deliver(0), 10)?;
     for server in 0..4 {
         assert_eq!(rt; fixture.held(server), (64, 1250));
     }
@@ -81,7 +81,11 @@ fn timestamp_is_the_next_above_the_highest_and_the_last(rt: HostRuntime) -> Resu
         );
         assert!(rt; fixture.register.len == 4);
         for server in 0..4 {
-            fixture.holds(server as usize, note(0, server, STORE, 2, chosen, 1250))?;
+            fixture.holds(
+                &rt,
+                server as usize,
+                note(0, server, STORE, 2, chosen, 1250),
+            )?;
         }
     }
     Ok(())

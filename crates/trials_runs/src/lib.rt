@@ -1,5 +1,6 @@
 // Tests of whole runs, with any quorum system, timestamps and values.
 #![tactic(auto)]
+
 #[cfg(test)]
 mod any_run;
 #[cfg(test)]
