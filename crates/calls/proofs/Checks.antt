@@ -1,5 +1,5 @@
 -- Checks that pass. Assumes nothing.
-use Rattle.std.proofs.Common.{◌≡◌, ℕ, Bool, true, false, List, [], ◌∷◌, Some, None, Option, refl, arith}
+use Rattle.std.proofs.Common.{◌≡◌, ℕ, Bool, true, false, List, ◌∷◌, None, refl, arith}
 use Rattle.calls.specs.Refusals.{Check, first_failed}
 use Rattle.calls.specs.declared.Refusal.{Refusal}
 

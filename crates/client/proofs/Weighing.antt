@@ -1,11 +1,11 @@
 -- What a client makes of a message, weighed against the room there is. Assumes nothing.
-use Rattle.std.proofs.Common.{◌≡◌, ℕ, zero, suc, ◌+◌, ◌*◌, ◌<◌, ◌≤◌, Bool, true, false, List, [], ◌∷◌, ◌++◌, length, is_some, Some, None, Ok, Err, Option, Result, sym, refl, ap, ◌∙◌, subst, ap₂, arith}
+use Rattle.std.proofs.Common.{◌≡◌, ℕ, zero, suc, ◌<◌, ◌≤◌, Bool, true, false, List, [], ◌∷◌, length, is_some, Some, None, Ok, Err, Option, Result, sym, refl, ap, ◌∙◌, subst, ap₂, arith}
 use Rattle.std.proofs.lemmas.List.{length-append}
 use Rattle.calls.specs.declared.Refusal.{Refusal}
 use Rattle.std.proofs.lemmas.Bool.{both_ways}
 use Rattle.network.specs.declared.message.Message.{Message}
 use Rattle.reading.specs.declared.reports.Report.{Report}
-use Rattle.reading.specs.Readings.{Reading, heard, decide}
+use Rattle.reading.specs.Readings.{Reading, decide}
 use Rattle.reading.specs.Reports.{view}
 use Rattle.reading.specs.Hearing.{Heard, after_value}
 use Rattle.protocol.specs.Settings.{Setting}

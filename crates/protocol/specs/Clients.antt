@@ -7,7 +7,7 @@ use Rattle.network.specs.declared.message.Kind.{Kind}
 use Rattle.network.specs.declared.message.Kind.TheVariants.{Query, Ts, Store, Ack, Read, Value, Stop}
 use Rattle.network.specs.declared.message.Message.{Message}
 use Rattle.timestamps.specs.Laws.{higher}
-use Rattle.reading.specs.Readings.{Rules, Reading, unread, updated, level, heard, decide}
+use Rattle.reading.specs.Readings.{Reading, unread, updated, level, heard, decide}
 use Rattle.protocol.specs.Settings.{Setting}
 
 -- what a client is about: nothing; asking for timestamps, to write a value, with the servers that told theirs and the highest of these; storing a pair, with the servers that acknowledged it; reading

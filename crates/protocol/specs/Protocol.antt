@@ -1,5 +1,5 @@
 -- The protocol: a register's state, and what each call answers and makes of it.
-use Rattle.std.specs.Prelude.{ℕ, zero, suc, ◌-◌, Bool, true, false, cond, not, ◌&&◌, ◌||◌, List, [], ◌∷◌, ◌++◌, length, Some, None, Option, nat_le, nat_lt}
+use Rattle.std.specs.Prelude.{ℕ, zero, suc, ◌-◌, Bool, true, false, cond, not, ◌&&◌, List, [], ◌∷◌, ◌++◌, length, Some, None, Option, nat_le, nat_lt}
 use Rattle.calls.specs.Refusals.{Check, first_failed}
 use Rattle.calls.specs.declared.Refusal.{Refusal}
 use Rattle.calls.specs.declared.Refusal.TheVariants.{Memory, NoClient, NoServer, OperationOpen, NumbersUsedUp, NetworkFull, NoMessage, NotFailProne, ServerCorrect, NotServerKind}
@@ -12,7 +12,7 @@ use Rattle.network.specs.declared.message.Kind.{Kind}
 use Rattle.network.specs.declared.message.Kind.TheVariants.{Query, Ts, Store, Ack, Value, Stop}
 use Rattle.network.specs.declared.message.Message.{Message}
 use Rattle.server.specs.Serving.{ServerState, Reaction, silent, reaction}
-use Rattle.reading.specs.Readings.{Rules, updated}
+use Rattle.reading.specs.Readings.{updated}
 use Rattle.protocol.specs.Settings.{Setting}
 use Rattle.protocol.specs.Clients.{Client, Outcome, idle, is_idle, begins_write, begins_read, takes}
 

@@ -1,5 +1,5 @@
 -- What a register is made over.
-use Rattle.std.specs.Prelude.{ℕ, Bool, Option}
+use Rattle.std.specs.Prelude.{ℕ, Option}
 use Rattle.quorums.specs.Laws.{QuorumLaws}
 use Rattle.timestamps.specs.Laws.{TimestampLaws}
 use Rattle.values.specs.Laws.{ValueLaws}

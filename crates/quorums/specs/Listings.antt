@@ -4,7 +4,7 @@ use Rattle.std.proofs.Common.{inl, inr, arith}
 use Rattle.std.proofs.lemmas.Bool.{and_parts, and_from, and_cases, or_cases, or_parts, or_left, or_right, both_ways}
 use Rattle.quorums.specs.Sets.{Set, members, none, either, outside, all, part_of, any}
 use Rattle.quorums.specs.Lists.{contained, completed, covered}
-use Rattle.quorums.specs.Laws.{Part, QuorumLaws}
+use Rattle.quorums.specs.Laws.{QuorumLaws}
 use Rattle.quorums.specs.declared.sets.ServerSet.{ServerSet}
 
 abbrev tail : Set → Set

@@ -1,5 +1,5 @@
 -- What memory shows after it is written.
-use Rattle.std.proofs.Common.{◌≡◌, ℕ, zero, suc, ◌+◌, ◌<◌, ◌≤◌, Bool, true, false, cond, not, ◌&&◌, eqb, ltb, [], ◌∷◌, ◌++◌, None, sym, refl, ap, ◌∙◌, ap₂, inl, inr, arith}
+use Rattle.std.proofs.Common.{◌≡◌, ℕ, zero, suc, ◌<◌, ◌≤◌, Bool, true, false, cond, not, ◌&&◌, eqb, ltb, [], ◌∷◌, ◌++◌, None, sym, refl, ap, ◌∙◌, ap₂, inl, inr, arith}
 use Rattle.std.proofs.lemmas.Bool.{or_parts, not-false, cases_Bool, eqb-true, eq-eqb, ne_eqb, cond-true, cond-false, lt-ltb, le-ltb, ltb-true, and_left, and_right, and_from}
 use Rattle.reading.specs.declared.reports.Report.{Report}
 use Rattle.reading.specs.Readings.{Reading, level, updated, newer, raised}

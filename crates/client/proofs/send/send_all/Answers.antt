@@ -1,4 +1,4 @@
-use Rattle.std.proofs.Common.{◌≡◌, ℕ, ◌+◌, List, [], ◌∷◌, ◌++◌, length, sym, ap, ◌∙◌, subst, add-one, arith}
+use Rattle.std.proofs.Common.{ℕ, ◌+◌, List, [], ◌∷◌, ◌++◌, length, sym, ap, ◌∙◌, subst, add-one, arith}
 use Rattle.network.specs.Queues.{Room, Sent}
 use Rattle.network.specs.declared.message.Message.{Message}
 use Rattle.network.proofs.Sending.{posted_sent, sent_then, room_after}

@@ -1,5 +1,5 @@
-use Rattle.std.proofs.Common.{◌≡◌, ℕ, ◌+◌, Bool, true, false, cond, sym, ap, ◌∙◌, arith}
-use Rattle.server.specs.Serving.{wants, wanting}
+use Rattle.std.proofs.Common.{◌≡◌, ℕ, cond, sym, ap, ◌∙◌, arith}
+use Rattle.server.specs.Serving.{wants}
 use Rattle.server.specs.Receiving.{listener_in}
 use Rattle.server.proofs.Passing.{wanting_more, wanting_few, listener_read}
 use Rattle.server.proofs.listeners.count_wanting.Goals as goal

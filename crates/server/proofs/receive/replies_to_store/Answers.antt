@@ -1,4 +1,4 @@
-use Rattle.std.proofs.Common.{length, sym, ap, ◌∙◌, arith}
+use Rattle.std.proofs.Common.{length, arith}
 use Rattle.server.specs.Receiving.{listener_in}
 use Rattle.server.proofs.Passing.{wanting_few, passed_count}
 use Rattle.server.proofs.receive.replies_to_store.Goals as goal

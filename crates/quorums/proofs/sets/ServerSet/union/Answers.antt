@@ -1,4 +1,3 @@
-use Rattle.std.proofs.Common.{◌≡◌, ℕ, ◌||◌}
 use mathlib.Core.Path.{fun_ext}
 use Rattle.quorums.proofs.Masks.{bits_or}
 use Rattle.quorums.proofs.sets.ServerSet.union.Goals as goal

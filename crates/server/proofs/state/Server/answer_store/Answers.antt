@@ -1,4 +1,4 @@
-use Rattle.std.proofs.Common.{◌≡◌, ◌+◌, [], ◌∷◌, length, ap, ◌∙◌, subst, arith}
+use Rattle.std.proofs.Common.{[], ◌∷◌, length, ap, ◌∙◌, subst, arith}
 use Rattle.network.specs.Queues.{Sent}
 use Rattle.network.specs.declared.message.Message.{Message}
 use Rattle.network.proofs.Sending.{sent_then, room_after}

@@ -1,4 +1,4 @@
-use Rattle.std.proofs.Common.{◌≡◌, length, sym, subst}
+use Rattle.std.proofs.Common.{length, sym, subst}
 use Rattle.network.specs.declared.message.Kind.{Kind}
 use Rattle.network.proofs.Sending.{sent_none}
 use Rattle.server.specs.Serving.{by_kind}

@@ -1,5 +1,4 @@
-use Rattle.std.proofs.Common.{◌≡◌, ℕ, cond, length, sym, ap, ◌∙◌, subst}
-use Rattle.network.specs.Kinds.{kind_of}
+use Rattle.std.proofs.Common.{◌≡◌, ℕ, length, sym, ap, ◌∙◌, subst}
 use Rattle.network.specs.Queues.{Room}
 use Rattle.server.specs.Serving.{reaction}
 use Rattle.server.specs.Receiving.{state_of}
