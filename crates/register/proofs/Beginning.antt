@@ -1,5 +1,5 @@
 -- A client that begins an operation, over the memory of all clients. Assumes nothing.
-use Rattle.std.proofs.Common.{◌≡◌, ℕ, ◌+◌, ◌-◌, ◌*◌, ◌<◌, ◌≤◌, Bool, true, false, not, ltb, leb, List, [], ◌∷◌, length, get_or, take, drop, set, replicate, Some, None, Ok, Err, Option, Result, sym, refl, ap, ◌∙◌, subst, ap₂, arith}
+use Rattle.std.proofs.Common.{◌≡◌, ℕ, ◌+◌, ◌*◌, ◌<◌, ◌≤◌, not, ltb, leb, List, [], ◌∷◌, length, get_or, drop, set, replicate, Ok, Err, Result, sym, refl, ap, ◌∙◌, arith}
 use borrow.Rule.Slice.PartMut.{put_mid}
 use Rattle.std.proofs.lemmas.List.{drop-set-lt, set-get_or, length-take-le, length-drop}
 use Rattle.std.proofs.lemmas.Slice.{take-put_mid_below, drop-put_mid}
@@ -18,11 +18,11 @@ use Rattle.client.specs.declared.state.Client.{Client}
 use Rattle.client.specs.declared.state.Phase.{Phase}
 use Rattle.client.specs.declared.state.Phase.TheVariants as phase
 use Rattle.client.specs.declared.state.Dispatch.{Dispatch}
-use Rattle.delivery.specs.Memory.{part, new_client, report_count}
+use Rattle.delivery.specs.Memory.{part, new_client}
 use Rattle.delivery.specs.Parts.{clients_in}
 use Rattle.delivery.proofs.Parts.{part_own, part_kept}
 use Rattle.delivery.proofs.Attending.{client_at, clients_put}
-use Rattle.register.specs.Beginning.{client_refuses, BegunBy, BegunAt, BlankFor, ReadReports}
+use Rattle.register.specs.Beginning.{client_refuses, BegunAt, ReadReports}
 
 -- a client that rests is idle
 rests_idle : {S V : Type 0} (p : Phase S V) (known : Reading S V) → is_resting p ≡ protocol.is_idle (phase_of p known)

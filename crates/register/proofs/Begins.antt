@@ -1,5 +1,5 @@
 -- A client begins an operation: the register's reply. Assumes nothing.
-use Rattle.std.proofs.Common.{◌≡◌, ℕ, ◌+◌, ◌-◌, ◌*◌, ◌<◌, ◌≤◌, Bool, true, false, cond, not, ltb, leb, List, [], ◌∷◌, ◌++◌, length, take, drop, Some, None, Option, sym, refl, ap, ◌∙◌, subst, ap₂, arith}
+use Rattle.std.proofs.Common.{◌≡◌, ℕ, ◌+◌, ◌-◌, ◌*◌, ◌<◌, ◌≤◌, Bool, true, cond, not, ltb, leb, List, [], ◌∷◌, ◌++◌, length, take, drop, Some, None, Option, sym, refl, ap, ◌∙◌, subst, ap₂, arith}
 use Rattle.std.proofs.lemmas.List.{length-take-le}
 use Rattle.std.proofs.lemmas.Bool.{ltb-false, lt-ltb, le-ltb, and_from, le-leb}
 use Rattle.calls.specs.Refusals.{first_failed}
@@ -8,23 +8,21 @@ use Rattle.calls.specs.declared.Answer.{Answer}
 use Rattle.calls.specs.declared.Answer.TheVariants.{Refused, Begun}
 use Rattle.calls.specs.declared.Refusal.{Refusal}
 use Rattle.calls.specs.declared.Refusal.TheVariants.{NoClient, OperationOpen, NumbersUsedUp, NetworkFull}
-use Rattle.network.specs.Queues.{sized, Room, Sent}
+use Rattle.network.specs.Queues.{Room, Sent}
 use Rattle.network.specs.declared.message.Message.{Message}
 use Rattle.network.proofs.Sending.{drop_later}
 use Rattle.quorums.specs.Sets.{members}
 use Rattle.reading.specs.declared.reports.Report.{Report}
-use Rattle.reading.specs.Readings.{updated}
 use Rattle.protocol.specs.Settings.{Setting}
 use Rattle.protocol.specs.Clients as protocol
-use Rattle.protocol.specs.Protocol.{State, Reply, begin_checks, begin, by_outcome, unless}
+use Rattle.protocol.specs.Protocol.{begin_checks, begin, by_outcome, unless}
 use Rattle.client.specs.Showing.{messages_of}
 use Rattle.client.specs.Taking.{sending}
 use Rattle.client.specs.declared.state.Client.{Client}
 use Rattle.client.specs.declared.state.Dispatch.{Dispatch}
 use Rattle.client.specs.declared.state.Dispatch.TheVariants.{Nothing, ToAll}
 use Rattle.client.proofs.Weighing.{length-messages}
-use Rattle.delivery.specs.Memory.{Lent, lent, report_count, sizes_of, enough}
-use Rattle.delivery.specs.Answering.{Answered}
+use Rattle.delivery.specs.Memory.{Lent, lent, report_count, enough}
 use Rattle.delivery.proofs.Parts.{part_end}
 use Rattle.register.specs.declared.record.Register.{Register}
 use Rattle.register.specs.Calling.{with_queue, network_of, state_of, Replied}

@@ -1,9 +1,8 @@
 -- Calls on faulty servers. Assumes nothing.
-use Rattle.std.proofs.Common.{◌≡◌, ℕ, ◌+◌, ◌-◌, ◌<◌, ◌≤◌, Bool, true, false, cond, not, ◌&&◌, ◌||◌, eqb, ltb, List, [], ◌∷◌, length, take, drop, set, Some, None, Option, sym, refl, ap, ◌∙◌, subst, inl, inr, arith}
+use Rattle.std.proofs.Common.{◌≡◌, ℕ, ◌+◌, ◌-◌, ◌<◌, ◌≤◌, true, false, cond, not, ◌&&◌, ◌||◌, eqb, ltb, List, [], ◌∷◌, length, take, set, Some, None, Option, sym, refl, ap, ◌∙◌, subst, inl, inr, arith}
 use Rattle.std.proofs.lemmas.Bool.{cases_lt, le-ltb, ltb-true, ltb-false, not-false}
 use Rattle.calls.specs.Refusals.{Check, first_failed}
 use Rattle.calls.proofs.Checks.{passes_first}
-use Rattle.calls.specs.declared.Answer.{Answer}
 use Rattle.calls.specs.declared.Answer.TheVariants.{Refused, Turned, Forged}
 use Rattle.calls.specs.declared.Refusal.{Refusal}
 use Rattle.calls.specs.declared.Refusal.TheVariants.{NoClient, NoServer, NetworkFull, NotFailProne, ServerCorrect, NotServerKind}
@@ -15,8 +14,8 @@ use Rattle.quorums.specs.declared.sets.ServerSet.{ServerSet}
 use Rattle.reading.specs.Readings.{updated}
 use Rattle.client.proofs.Counting.{with_updated}
 use Rattle.protocol.specs.Settings.{Setting}
-use Rattle.protocol.specs.Protocol.{State, Reply, turn_checks, turned, forge_checks, forged, may_be_sent, unless}
-use Rattle.delivery.specs.Memory.{Lent, lent, sizes_of, enough}
+use Rattle.protocol.specs.Protocol.{Reply, turn_checks, turned, forge_checks, forged, may_be_sent, unless}
+use Rattle.delivery.specs.Memory.{Lent, lent, enough}
 use Rattle.register.specs.declared.record.Register.{Register}
 use Rattle.register.specs.Calling.{with_queue, state_of, Replied}
 use Rattle.register.specs.Faults.{turn_refusal, forge_refusal}

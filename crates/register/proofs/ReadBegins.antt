@@ -1,7 +1,7 @@
 -- A read that begins, and its client's reports. Assumes nothing.
-use Rattle.std.proofs.Common.{◌≡◌, ℕ, sym, ◌∙◌, arith}
+use Rattle.std.proofs.Common.{◌≡◌, ℕ, arith}
 use Rattle.calls.specs.declared.Answer.{Answer}
-use Rattle.calls.specs.declared.Answer.TheVariants.{Refused, Begun}
+use Rattle.calls.specs.declared.Answer.TheVariants.{Refused}
 use Rattle.calls.specs.declared.Call.TheVariants.{Read}
 use Rattle.calls.specs.declared.Refusal.{Refusal}
 use Rattle.protocol.specs.Settings.{Setting}

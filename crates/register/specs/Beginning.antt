@@ -1,5 +1,5 @@
 -- A client of the register that begins an operation.
-use Rattle.std.specs.Prelude.{◌≡◌, ℕ, Bool, not, List, [], ◌∷◌, drop, replicate, Some, None, Ok, Err, Option, Result, nat_le, nat_lt}
+use Rattle.std.specs.Prelude.{◌≡◌, ℕ, not, List, [], ◌∷◌, drop, replicate, Some, None, Ok, Err, Option, Result, nat_le, nat_lt}
 use Rattle.calls.specs.Refusals.{first_failed}
 use Rattle.calls.specs.declared.Answer.{Answer}
 use Rattle.calls.specs.declared.Refusal.{Refusal}

@@ -1,5 +1,5 @@
 -- What each call on a register promises.
-use Rattle.std.specs.Prelude.{◌≡◌, ℕ, ◌*◌, Bool, true, false, List, ◌++◌, length, drop, replicate, None, Ok, Err, Result}
+use Rattle.std.specs.Prelude.{◌≡◌, ℕ, ◌*◌, true, false, ◌++◌, drop, replicate, None, Ok, Err, Result}
 use Rattle.calls.specs.declared.Answer.{Answer}
 use Rattle.calls.specs.declared.Answer.TheVariants.{Begun}
 use Rattle.calls.specs.declared.Call.{Call}

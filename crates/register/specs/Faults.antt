@@ -1,5 +1,5 @@
 -- The checks of calls on faulty servers, over the record alone.
-use Rattle.std.specs.Prelude.{ℕ, ◌-◌, Bool, not, List, [], ◌∷◌, Option, nat_lt}
+use Rattle.std.specs.Prelude.{ℕ, ◌-◌, Bool, not, [], ◌∷◌, Option, nat_lt}
 use Rattle.calls.specs.Refusals.{first_failed}
 use Rattle.calls.specs.declared.Refusal.{Refusal}
 use Rattle.calls.specs.declared.Refusal.TheVariants.{NoClient, NoServer, NetworkFull, NotFailProne, ServerCorrect, NotServerKind}

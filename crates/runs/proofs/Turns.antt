@@ -1,15 +1,15 @@
 -- Calls played one after another. Assumes nothing.
-use Rattle.std.proofs.Common.{◌≡◌, ℕ, ◌+◌, ◌-◌, ◌*◌, ◌<◌, ◌≤◌, Bool, true, false, List, [], ◌∷◌, ◌++◌, map, reverse, length, get_or, take, drop, set, sym, refl, ap, ◌∙◌, subst, ap₂, append_assoc, arith}
+use Rattle.std.proofs.Common.{◌≡◌, ℕ, ◌+◌, ◌<◌, ◌≤◌, true, List, [], ◌∷◌, ◌++◌, map, reverse, length, get_or, take, drop, set, sym, refl, ap, ◌∙◌, subst, append_assoc, arith}
 use mathlib.Core.List.{reverse-cons}
-use Rattle.std.proofs.lemmas.List.{reverse-append, length-reverse, length-map, length-append, length_push, length-take-le, take_more, drop_more, set_at}
+use Rattle.std.proofs.lemmas.List.{reverse-append, length-reverse, length-map, length_push, length-take-le, take_more, drop_more, set_at}
 use Rattle.calls.specs.declared.Answer.{Answer}
 use Rattle.calls.specs.declared.Call.{Call}
 use Rattle.network.proofs.Sending.{drop_later}
 use Rattle.protocol.specs.Settings.{Setting}
-use Rattle.protocol.specs.Protocol.{State, step, opened}
-use Rattle.protocol.specs.Runs.{Step, run, steps}
+use Rattle.protocol.specs.Protocol.{step, opened}
+use Rattle.protocol.specs.Runs.{run, steps}
 use Rattle.delivery.specs.Memory.{Lent, enough}
-use Rattle.delivery.specs.Answering.{Rest, Answered}
+use Rattle.delivery.specs.Answering.{Rest}
 use Rattle.register.specs.declared.record.Register.{Register}
 use Rattle.register.specs.Calling.{with_queue, state_of, Answers}
 use Rattle.register.proofs.Enough.{parts}

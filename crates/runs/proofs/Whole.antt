@@ -1,8 +1,7 @@
 -- A whole run, from the opening on. Assumes nothing.
-use Rattle.std.proofs.Common.{◌≡◌, ℕ, ◌+◌, ◌*◌, ◌<◌, ◌≤◌, Bool, true, false, cond, not, ltb, List, [], ◌∷◌, ◌++◌, reverse, length, take, drop, replicate, Some, None, Option, sym, refl, ap, ◌∙◌, subst, arith}
+use Rattle.std.proofs.Common.{◌≡◌, ℕ, ◌+◌, ◌*◌, ◌<◌, ◌≤◌, false, cond, not, List, ◌++◌, reverse, length, take, drop, replicate, Some, None, sym, refl, ap, ◌∙◌, arith}
 use Rattle.std.proofs.lemmas.List.{drop_at, length-replicate}
 use Rattle.std.proofs.lemmas.Bool.{lt-ltb, le-ltb}
-use Rattle.calls.specs.Refusals.{first_failed}
 use Rattle.calls.specs.declared.Answer.{Answer}
 use Rattle.calls.specs.declared.Call.{Call}
 use Rattle.calls.specs.declared.Refusal.{Refusal}
@@ -10,11 +9,10 @@ use Rattle.calls.specs.declared.Refusal.TheVariants.{Memory}
 use Rattle.protocol.specs.Settings.{Setting, Lawful}
 use Rattle.machine.proofs.ProtocolLaw.{run_law}
 use Rattle.delivery.specs.Memory.{Lent, new_server, new_client, enough}
-use Rattle.delivery.specs.Answering.{Rest}
 use Rattle.server.specs.Serving.{silent}
 use Rattle.register.specs.declared.record.Register.{Register}
 use Rattle.register.specs.Calling.{OpenedWith}
-use Rattle.runs.specs.Playing.{play_refusal, Playing, RunPlayed, RunRefused}
+use Rattle.runs.specs.Playing.{Playing, RunPlayed, RunRefused}
 use Rattle.runs.proofs.Turns.{rest_then}
 
 -- what lies past entries that are set up is as it was

@@ -1,13 +1,13 @@
 -- A message that is posted, taken out and settled leaves the queue as it was. Assumes nothing.
-use Rattle.std.proofs.Common.{◌≡◌, ℕ, ◌+◌, ◌-◌, ◌<◌, ◌≤◌, Bool, true, false, cond, not, ◌&&◌, ltb, leb, List, [], ◌∷◌, length, get_or, set, is_some, Some, None, Ok, Err, Option, Result, sym, refl, ap, ◌∙◌, subst, arith}
+use Rattle.std.proofs.Common.{◌≡◌, ℕ, ◌+◌, ◌-◌, ◌<◌, ◌≤◌, Bool, true, false, cond, not, ◌&&◌, ltb, leb, List, [], ◌∷◌, length, set, Some, None, Ok, Err, Option, Result, sym, refl, ap, ◌∙◌, subst, arith}
 use Rattle.std.proofs.lemmas.List.{length-set, get_or-set_same}
-use Rattle.std.proofs.lemmas.Bool.{true≢false, and_from, and_parts, both_ways, cond-true, le-leb, leb-true, leb-false, lt-leb, lt-ltb}
+use Rattle.std.proofs.lemmas.Bool.{true≢false, and_from, and_parts, cond-true, le-leb, leb-true, leb-false, lt-leb, lt-ltb}
 use Rattle.calls.proofs.Checks.{passes_first}
 use Rattle.calls.specs.Refusals.{first_failed}
 use Rattle.calls.specs.declared.Refusal.{Refusal}
 use Rattle.calls.specs.declared.Refusal.TheVariants.{Memory, NetworkFull, NoMessage, TokenOut}
 use Rattle.network.proofs.Closing.{close_start, close_all}
-use Rattle.network.specs.Queues.{sized, below, fits, post_checks, take_checks, longer, lifted_at, closed_at, without, Posted}
+use Rattle.network.specs.Queues.{sized, fits, post_checks, take_checks, longer, lifted_at, closed_at, without, Posted}
 use Rattle.network.specs.declared.queue.Network.{Network}
 use Rattle.third.specs.Passing.{TakenOut, Passed}
 

@@ -1,16 +1,11 @@
-use Rattle.std.proofs.Common.{◌≡◌, ◌+◌, ◌<◌, ◌≤◌, true, List, length, take, sym, refl, ap, subst, arith}
-use Rattle.std.proofs.lemmas.List.{take_all}
-use Rattle.calls.specs.declared.Answer.{Answer}
-use Rattle.calls.specs.declared.Call.{Call}
+use Rattle.std.proofs.Common.{◌≡◌, true, sym, subst}
 use Rattle.reading.specs.Readings.{rules}
 use Rattle.protocol.specs.Settings.{Setting, setting}
 use Rattle.protocol.specs.Protocol.{opened}
 use Rattle.delivery.specs.Memory.{lent, enough}
 use Rattle.register.specs.declared.record.Register.{Register}
-use Rattle.register.specs.Calling.{state_of, Answers}
+use Rattle.register.specs.Calling.{state_of}
 use Rattle.runs.specs.Playing.{Playing}
-use Rattle.protocol.specs.Settings.{Lawful}
-use Rattle.register.specs.Calling.{OpenedWith}
 use Rattle.runs.proofs.Whole.{few_answers, not_opened, run_played}
 use Rattle.runs.proofs.play.play.Goals as goal
 

@@ -1,13 +1,12 @@
-use Rattle.std.proofs.Common.{◌≡◌, ◌+◌, ◌<◌, ◌≤◌, true, List, length, take, sym, refl, ap, subst, arith}
+use Rattle.std.proofs.Common.{◌+◌, List, take, sym, subst, arith}
 use Rattle.std.proofs.lemmas.List.{take_all}
 use Rattle.calls.specs.declared.Answer.{Answer}
 use Rattle.calls.specs.declared.Call.{Call}
 use Rattle.reading.specs.Readings.{rules}
 use Rattle.protocol.specs.Settings.{Setting, setting}
-use Rattle.protocol.specs.Protocol.{opened}
-use Rattle.delivery.specs.Memory.{lent, enough}
+use Rattle.delivery.specs.Memory.{lent}
 use Rattle.register.specs.declared.record.Register.{Register}
-use Rattle.register.specs.Calling.{state_of, Answers}
+use Rattle.register.specs.Calling.{Answers}
 use Rattle.runs.specs.Playing.{Playing}
 use Rattle.runs.proofs.Turns.{play_none, play_next}
 use Rattle.runs.proofs.play.play_all.Goals as goal

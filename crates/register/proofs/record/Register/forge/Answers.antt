@@ -1,4 +1,4 @@
-use Rattle.std.proofs.Common.{◌≡◌, ◌<◌, sym, ◌∙◌, arith}
+use Rattle.std.proofs.Common.{sym, ◌∙◌, arith}
 use Rattle.reading.specs.Readings.{rules}
 use Rattle.protocol.specs.Settings.{setting}
 use Rattle.delivery.specs.Memory.{lent}

@@ -1,6 +1,4 @@
-use Rattle.std.proofs.Common.{◌≡◌, ◌<◌, sym, ◌∙◌}
-use Rattle.quorums.specs.Laws.{QuorumLaws}
-use Rattle.calls.specs.Refusals.{first_failed}
+use Rattle.std.proofs.Common.{sym, ◌∙◌}
 use Rattle.register.proofs.Replies.{short}
 use Rattle.register.proofs.Faulty.{turn_refused, turn_accepted}
 use Rattle.register.proofs.record.Register.turn.Goals as goal
