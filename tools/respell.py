@@ -69,7 +69,7 @@ def gather(paths):
             if p.endswith(".edit"):
                 continue
             d = DECL.match(line)
-            if d and not re.search(r":\s*(goal|need|given)\b", line):
+            if d and not re.search(r":\s*goal\.", line):
                 own.setdefault(d.group(1), p)
             for group in LOCAL.findall(line):
                 for n in group.split():
