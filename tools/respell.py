@@ -96,6 +96,15 @@ def turn(text, names):
     return TOKEN.sub(lambda m: names.get(m.group(0), m.group(0)), text)
 
 
+def turn_code(text, names):
+    """Turns all but comments, whose words may be those of a name, as in "a fail-prone set"."""
+    lines = []
+    for line in text.split("\n"):
+        code, mark, comment = re.match(r"(.*?)((?:^|(?<=\s))(?:--|//)(?=\s|$)|$)(.*)", line).groups()
+        lines.append(turn(code, names) + mark + comment)
+    return "\n".join(lines)
+
+
 def main():
     root = os.getcwd()
     paths = {}
@@ -128,7 +137,7 @@ def main():
             print("name:", n, names[n])
         return
     for p, t in paths.items():
-        r = turn(t, names)
+        r = turn_code(t, names)
         if r != t:
             with open(p, "w", encoding="utf-8") as f:
                 f.write(r)

@@ -28,7 +28,7 @@ pub enum Refusal {
     NetworkFull,
     // no message at that place
     NoMessage,
-    // the faulty servers with this one are not faulty_fail_prone
+    // the faulty servers with this one are not fail-prone
     NotFailProne,
     // a correct server does not forge
     ServerCorrect,

@@ -125,7 +125,7 @@ module _ {S V : Type 0} (K : Setting S V) where
     pub source : (c k : ℕ) (s : S) (v : V) (q : ℕ → Bool) → In (finished c k s (Some v) q) h →
         ((s ≡ K.lowest) × (v ≡ K.initial)) ⊎ ((c' : ℕ) × (k' : ℕ) × Before (chose c' k' s v) (finished c k s (Some v) q) h)
 
-  -- the faulty servers are faulty_fail_prone, and messages, correct servers, clients and history are as they should be
+  -- the faulty servers are fail-prone, and messages, correct servers, clients and history are as they should be
   pub record Safe (σ : State S V) : Type 0 where
     pub faulty_fail_prone : K.rules.fail_prone σ.faulty ≡ true
     pub messages : All (Good σ) σ.queue

@@ -78,6 +78,7 @@ ones_digit zero h = refl
 ones_digit (suc zero) h = refl
 ones_digit (suc (suc r)) h = absurd (omega arith)
 
+-- as many of the first n servers are members as the first n bits of the mask have ones
 pub ones_tally : (n m : ℕ) → ones (m % 2 ^ n) ≡ tally n (bits m)
 unfolding tally
 ones_tally zero m = omega (arith, ones-le 0 (m % 2 ^ 0) (mod-lt m (pow_pos 0)))
@@ -111,6 +112,7 @@ tally_larger (suc n) a f h =
           (suc found.0, omega (arith, found.1), found.2, found.3)
     ]
 
+-- the threshold system of n servers and f faults keeps the laws
 pub threshold_laws : (n f : ℕ) → n ≤ 16 → 3 * f + 1 ≤ n → QuorumLaws n (λ s. nat_le (needed n f) (tally n s)) (λ s. nat_le (tally n s) f)
 threshold_laws n f few low = record {
   some_server = omega arith;

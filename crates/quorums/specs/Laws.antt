@@ -6,8 +6,8 @@ use Rattle.quorums.specs.Sets.{Set, none, outside}
 abbrev pub Part : ℕ → Set → Set → Type 0
 Part n a b = (i : ℕ) → i < n → a i ≡ true → b i ≡ true
 
--- There are 1 to 16 servers. Any part of a faulty_fail_prone set is faulty_fail_prone, and any set that holds a quorum is one.
--- Two quorums share a server outside each faulty_fail_prone set, and the servers outside a faulty_fail_prone set are a quorum.
+-- There are 1 to 16 servers. Any part of a fail-prone set is fail-prone, and any set that holds a quorum is one.
+-- Two quorums share a server outside each fail-prone set, and the servers outside a fail-prone set are a quorum.
 pub record QuorumLaws (n : ℕ) (quorum fail_prone : Set → Bool) : Type 0 where
   pub some_server : 0 < n
   pub few_servers : n ≤ 16

@@ -66,12 +66,13 @@ more l x y h e = grind arith
 rest : (x l : Bool) → (not x || l) ≡ true → (l || not x) ≡ true
 rest x l e = grind arith
 
--- a server outside three listed sets is in two quorums, and not in a faulty_fail_prone set
+-- a server outside three listed sets is in two quorums, and not in a fail-prone set
 apart_at : (la lb lf a b f : Bool) → (lf || (la || lb)) ≡ false → (la || a) ≡ true → (lb || b) ≡ true → (not f || lf) ≡ true → (a ≡ true) × (b ≡ true) × (f ≡ false)
 apart_at la lb lf a b f h p q r = (grind arith, grind arith, grind arith)
 
 -- ---- the laws
 
+-- a listed system of n servers, no three sets of which cover all, keeps the laws
 pub listed_laws : (n : ℕ) (sets : List ServerSet) → 0 < n → n ≤ 16 → 0 < length sets → covered n sets ≡ false → QuorumLaws n (completed n sets) (contained n sets)
 listed_laws n sets some few filled apart = record {
   some_server = some;

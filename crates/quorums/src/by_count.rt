@@ -1,4 +1,4 @@
-// The threshold system: quorums and faulty_fail_prone sets by how many servers they have.
+// The threshold system: quorums and fail-prone sets by how many servers they have.
 ghost use Rattle.std.specs.Prelude.{◌≡◌};
 ghost use Rattle.quorums.specs.ByCount.{Opened, needed, threshold_size, threshold_quorum, threshold_fail_prone};
 ghost use Rattle.quorums.specs.Counts.{threshold_laws};

@@ -1,4 +1,4 @@
-// The listed system: quorums and faulty_fail_prone sets by a list of the largest faulty_fail_prone sets.
+// The listed system: quorums and fail-prone sets by a list of the largest fail-prone sets.
 ghost use Rattle.std.specs.Prelude.{◌≡◌, ◌≤◌, length, take};
 ghost use Rattle.quorums.specs.Sets.{members, either, all, any};
 ghost use Rattle.quorums.specs.Lists.{contained, completed, covered, past};

@@ -1,7 +1,7 @@
 -- A client that reads: what a VALUE makes of what it knows, and when it is done.
 use Rattle.std.specs.Prelude.{ℕ, zero, suc, Bool, true, false, cond, not, ◌&&◌, ◌||◌, List, [], ◌∷◌, ◌++◌, Some, None, Option, ◌==◌, nat_lt}
 
--- what a reading client asks of the kinds: the servers, the quorums, the faulty_fail_prone sets, the order of timestamps, the equality of values
+-- what a reading client asks of the kinds: the servers, the quorums, the fail-prone sets, the order of timestamps, the equality of values
 pub record Rules (S V : Type 0) : Type 0 where
   pub n : ℕ
   pub quorum : (ℕ → Bool) → Bool
@@ -88,7 +88,7 @@ better above t (Some v) None = Some (t, v)
 better above t (Some v) (Some p) = cond (above p.0 t) (Some p) (Some (t, v))
 
 module _ {S V : Type 0} (K : Rules S V) where
-  -- a server leads when it has entered and the servers ahead of it are faulty_fail_prone
+  -- a server leads when it has entered and the servers ahead of it are fail-prone
   abbrev pub leads : Reading S V → ℕ → Bool
   leads r b = r.entered b && K.fail_prone (ahead K.above r b)
 

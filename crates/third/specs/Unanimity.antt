@@ -1,4 +1,4 @@
--- The unanimous system: a quorum has all servers, and a faulty_fail_prone set none.
+-- The unanimous system: a quorum has all servers, and a fail-prone set none.
 use Rattle.std.specs.Prelude.{◌≡◌, ℕ, zero, suc, Bool, true, ◌&&◌, ◌||◌, List, [], ◌∷◌, Some, None, Ok, Err, Result, ◌==◌, nat_lt}
 use Rattle.calls.specs.Refusals.{Check, first_failed}
 use Rattle.calls.specs.declared.Refusal.{Refusal}

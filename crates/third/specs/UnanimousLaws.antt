@@ -37,6 +37,7 @@ fewer x y h e = grind arith
 none_of : (x : Bool) → not x ≡ true → x ≡ false
 none_of x e = grind arith
 
+-- the unanimous system of n servers keeps the laws
 pub unanimous_laws : (n : ℕ) → 0 < n → n ≤ 16 → QuorumLaws n (each n) (λ s. each n (outside s))
 unanimous_laws n some few = record {
   some_server = some;

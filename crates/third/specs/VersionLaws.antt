@@ -46,6 +46,7 @@ above_both a b s h = (grind (arith, nat_tests), grind (arith, nat_tests))
 above_higher : (client : ℕ) (a b u : Version) → Candidate version_above version_owner client a b u → (higher version_above a b).number < u.number
 above_higher client a b u c = cond_both (version_above b a) b a (λ t. t.number < u.number) (λ _. ltb-true b.number u.number c.above_second) (λ _. ltb-true a.number u.number c.above_first)
 
+-- the version after the higher of two is the lowest above both, for client 0
 pub lowest_some : (client : ℕ) (a b s : Version) → client ≡ 0 → s.number ≡ (higher version_above a b).number + 1 → Next version_above version_owner client a b (Some s)
 lowest_some client a b s h e =
     let over = above_both a b s (omega (arith, e)) in (
@@ -69,6 +70,7 @@ lowest_next client a b =
     (λ other. subst P (sym (cond-false (client == 0) (version n) None (other_client client other))) (λ u c. omega (arith, c.owned)))
     (cases_lt client 1)
 
+-- versions keep the laws of timestamps
 pub version_laws : TimestampLaws version_above version_owner version_lowest version_successor
 version_laws = record {
   irreflexive = λ s. grind (arith, nat_tests);

@@ -53,6 +53,7 @@ above_higher client a b u c = cond_both (packed_above b a) b a (λ t. t.number <
 candidate_from : (client : ℕ) (a b u : Packed) → Candidate packed_above packed_owner client a b u → following client (higher packed_above a b).number ≤ u.number
 candidate_from client a b u c = none_between client (higher packed_above a b).number u.number c.owned (above_higher client a b u c)
 
+-- the timestamp of the following number is the lowest of its client above both
 pub lowest_some : (client : ℕ) (a b s : Packed) → client < 64 → s.number ≡ following client (higher packed_above a b).number → Next packed_above packed_owner client a b (Some s)
 lowest_some client a b s h e =
     let f = followed client (higher packed_above a b).number h in
@@ -77,6 +78,7 @@ packed_lowest_next client a b =
     (λ over. subst P (sym (cond-false (nat_lt client 64) (packed n) None (le-ltb client 64 over))) (λ u c. omega (arith, c.owned)))
     (cases_lt client 64)
 
+-- packed timestamps keep the laws
 pub packed_laws : TimestampLaws packed_above packed_owner packed_lowest packed_successor
 packed_laws = record {
   irreflexive = λ s. grind (arith, nat_tests);

@@ -77,6 +77,7 @@ lowest_some client a b s o e =
       λ u c. not_below s u (o ∙ sym c.owned) (omega (arith, e, candidate_from client a b u c)),
     )
 
+-- the successor is the lowest of its client above both, and there is none exactly where it has none
 pub paired_lowest_next : (client : ℕ) (a b : Paired) → Next paired_above paired_owner client a b (paired_successor client a b)
 paired_lowest_next client a b =
     let P : Option Paired → Type 0 = Next paired_above paired_owner client a b in
@@ -89,6 +90,7 @@ paired_lowest_next client a b =
     (λ over. subst P (sym (paired_no_client n client over)) (λ u c. omega (arith, u.known, c.owned)))
     (cases_lt client 64)
 
+-- paired timestamps keep the laws
 pub paired_laws : TimestampLaws paired_above paired_owner paired_lowest paired_successor
 paired_laws = record {
   irreflexive = λ s. grind (arith, nat_tests);

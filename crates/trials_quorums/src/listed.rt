@@ -113,7 +113,7 @@ fn answers_for_two_servers_or_one(rt: HostRuntime) -> Result<(), Fail> {
         let servers = mask as u16;
         assert_eq!(rt; system.is_quorum(set(servers)), *is_quorum);
         assert_eq!(rt; system.is_quorum(set(0xfff0 | servers)), *is_quorum);
-        // those with 0 and 1 only, or with 2 only, are faulty_fail_prone
+        // those with 0 and 1 only, or with 2 only, are fail-prone
         assert_eq!(rt; system.is_fail_prone(set(servers)), servers <= 4);
         assert_eq!(rt; system.is_fail_prone(set(0xfff0 | servers)), servers <= 4);
     }

@@ -1,4 +1,4 @@
-// The threshold system: its limits, and how many servers are a quorum or faulty_fail_prone.
+// The threshold system: its limits, and how many servers are a quorum or fail-prone.
 use quorums::QuorumSystem;
 use quorums::sets::ServerSet;
 use quorums::threshold::Threshold;

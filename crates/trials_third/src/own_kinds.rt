@@ -28,7 +28,7 @@ fn unanimous_system_has_1_to_16_servers(rt: HostRuntime) -> Result<(), Fail> {
     Ok(())
 }
 
-// Whether a set is a quorum and whether it is faulty_fail_prone; neither where n is refused.
+// Whether a set is a quorum and whether it is fail-prone; neither where n is refused.
 fn answers(n: u8, mask: u16) -> (bool, bool) {
     match Unanimous::open(n) {
         Ok(system) => (

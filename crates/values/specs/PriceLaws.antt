@@ -103,5 +103,6 @@ line_equal Scratched Absent h = absurd (false≢true h)
 line_equal Scratched (Quoted y) h = absurd (false≢true h)
 line_equal Scratched Scratched h = refl
 
+-- price lines keep the laws of values
 pub line_laws : ValueLaws same_line
 line_laws = record { itself = line_itself; equal = line_equal }

@@ -14,6 +14,7 @@ total_equal u v e = λ i. record {
   fits = is_prop→PathP (λ j. e j < 2 ^ 64) (λ j. le_prop) u.fits v.fits i;
 }
 
+-- totals keep the laws of values
 pub total_laws : ValueLaws same_total
 total_laws = record {
   itself = λ v. eq-eqb v.pence v.pence refl;
