@@ -1,8 +1,8 @@
 // Timestamps of clients, in a strict total order.
 #![tactic(auto)]
 
-ghost use Rattle.std.specs.Prelude.{◌≡◌, ℕ, Bool, Option};
-ghost use Rattle.timestamps.specs.Laws.{Next, TimestampLaws};
+ghost use Rattle.std.specs.Prelude.{◌≡◌, ℕ, Bool, Option, not, ◌&&◌};
+ghost use Rattle.timestamps.specs.Laws.{higher, Next, TimestampLaws};
 
 pub mod packed;
 pub mod packed_order;
@@ -33,4 +33,18 @@ pub trait Timestamp: Copy {
         ensures least { Next above owner client a b result };
 
     ghost ordered: { TimestampLaws above owner lowest successor };
+}
+
+// The higher of two timestamps; of equals, the first.
+pub fn higher_of<S: Timestamp>(a: S, b: S) -> S
+    ensures { result ≡ higher S.above a b }
+{
+    if b.is_above(a) { b } else { a }
+}
+
+// Whether two timestamps are equal: neither is above the other.
+pub fn is_level<S: Timestamp>(a: S, b: S) -> bool
+    ensures { result ≡ (not (S.above a b) && not (S.above b a)) }
+{
+    !a.is_above(b) && !b.is_above(a)
 }

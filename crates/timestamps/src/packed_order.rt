@@ -21,13 +21,6 @@ impl Packed {
     }
 }
 
-// The higher of two timestamps; of equals, the first.
-fn higher_of(a: Packed, b: Packed) -> Packed
-    ensures { result ≡ higher packed_above a b }
-{
-    if b.is_above(a) { b } else { a }
-}
-
 // The client's lowest number above top: in the row of 64 numbers of top, or in the row after it.
 fn number_above(client: u8, top: u64) -> Option<u64>
     ensures { result ≡ next_number client top }
@@ -59,13 +52,10 @@ impl Timestamp for Packed {
     }
 
     fn is_above(self, other: Packed) -> bool {
-        other.number < self.number
+        self > other
     }
 
     fn next(client: u8, a: Packed, b: Packed) -> Option<Packed> {
-        match number_above(client, higher_of(a, b).number) {
-            Some(number) => Some(Packed::new(number)),
-            None => None,
-        }
+        number_above(client, a.max(b).number).map(Packed::new)
     }
 }

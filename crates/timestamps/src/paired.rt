@@ -1,7 +1,7 @@
 ghost use Rattle.std.specs.Prelude.{◌^◌, ◌<◌};
 
-// A timestamp in two parts: a count, and the client that owns it.
-#[derive(Clone, Copy, PartialEq, Eq, Debug)]
+// A timestamp in two parts: a count, and the client that owns it. The derived order is by the count, and then by the client.
+#[derive(Clone, Copy, PartialEq, Eq, PartialOrd, Ord, Debug)]
 pub struct Paired {
     pub count: u32,
     pub client: u8,

@@ -40,13 +40,6 @@ impl Paired {
     }
 }
 
-// The higher of two timestamps; of equals, the first.
-fn higher_of(a: Paired, b: Paired) -> Paired
-    ensures { result ≡ higher paired_above a b }
-{
-    if b.is_above(a) { b } else { a }
-}
-
 impl Timestamp for Paired {
     ghost above = { paired_above };
 
@@ -63,13 +56,10 @@ impl Timestamp for Paired {
     }
 
     fn is_above(self, other: Paired) -> bool {
-        other.count < self.count || other.count == self.count && other.client < self.client
+        self > other
     }
 
     fn next(client: u8, a: Paired, b: Paired) -> Option<Paired> {
-        match higher_of(a, b).count_above(client) {
-            Some(count) => Paired::new(count, client),
-            None => None,
-        }
+        Paired::new(a.max(b).count_above(client)?, client)
     }
 }
