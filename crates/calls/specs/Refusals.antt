@@ -1,5 +1,5 @@
 -- The numbers of refusals, and which of several checks refuses.
-use Rattle.std.specs.Prelude.{ℕ, Bool, cond, List, [], ◌∷◌, Some, None, Option}
+use Rattle.std.specs.Prelude.{ℕ, Bool, cond, List, [], ◌∷◌, Some, None, Ok, Err, Option, Result}
 use Rattle.calls.specs.declared.Refusal.{Refusal}
 use Rattle.calls.specs.declared.Refusal.TheVariants.{SystemSize, ListedSets, SetsCover, Memory, NoClient, NoServer, OperationOpen, NumbersUsedUp, NetworkFull, NoMessage, NotFailProne, ServerCorrect, NotServerKind, TokenOut, Digits, UnknownFrame, FrameLength, OtherKinds, NotOpened, OpenedTwice, ScriptTooLong}
 
@@ -35,3 +35,8 @@ Check = Bool × Refusal
 abbrev pub first_failed : List Check → Option Refusal
 first_failed [] = None
 first_failed (c ∷ cs) = cond c.0 (Some c.1) (first_failed cs)
+
+-- passed where no check fails, and else refused
+abbrev pub passed : Option Refusal → Result Unit Refusal
+passed None = Ok tt
+passed (Some e) = Err e

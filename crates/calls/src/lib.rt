@@ -11,43 +11,43 @@ use std::fmt;
 #[derive(Clone, Copy, PartialEq, Eq, Debug)]
 pub enum Refusal {
     // the number of servers or of faults is out of range
-    SystemSize,
+    SystemSize = 1,
     // there is no listed set, there are too many, or one names a server that is not there
-    ListedSets,
+    ListedSets = 2,
     // three listed sets cover all servers
-    SetsCover,
+    SetsCover = 3,
     // a limit is passed, memory is too short, or a message names what is not there
-    Memory,
-    NoClient,
-    NoServer,
+    Memory = 4,
+    NoClient = 5,
+    NoServer = 6,
     // the client has an operation open
-    OperationOpen,
+    OperationOpen = 7,
     // the client's operation numbers are used up
-    NumbersUsedUp,
+    NumbersUsedUp = 8,
     // more messages to send than the network has room for
-    NetworkFull,
+    NetworkFull = 9,
     // no message at that place
-    NoMessage,
+    NoMessage = 10,
     // the faulty servers with this one are not fail-prone
-    NotFailProne,
+    NotFailProne = 11,
     // a correct server does not forge
-    ServerCorrect,
+    ServerCorrect = 12,
     // the forged kind is none that a server sends
-    NotServerKind,
+    NotServerKind = 13,
     // a message is lifted from the network
-    TokenOut,
-    Digits,
-    UnknownFrame,
-    FrameLength,
-    OtherKinds,
-    NotOpened,
-    OpenedTwice,
-    ScriptTooLong,
+    TokenOut = 14,
+    Digits = 15,
+    UnknownFrame = 16,
+    FrameLength = 17,
+    OtherKinds = 18,
+    NotOpened = 19,
+    OpenedTwice = 20,
+    ScriptTooLong = 21,
 }
 
 // What is asked: a client begins to write or to read; the message at a place of the queue is delivered;
 // a server is faulty from now on; a faulty server sends a message of any content.
-#[derive(Clone, Copy)]
+#[derive(Clone, Copy, PartialEq, Eq, Debug)]
 pub enum Call<S, V> {
     Write {
         client: u8,
@@ -73,7 +73,7 @@ pub enum Call<S, V> {
 }
 
 // What is answered. An operation goes by its client and its number.
-#[derive(Clone, Copy)]
+#[derive(Clone, Copy, PartialEq, Eq, Debug)]
 pub enum Answer<S, V> {
     Begun {
         client: u8,
@@ -100,39 +100,17 @@ pub enum Answer<S, V> {
     Refused(Refusal),
 }
 
-impl Refusal {
-    pub fn number(self) -> u8
-        ensures { result ≡ number_of self }
-    {
-        match self {
-            Refusal::SystemSize => 1,
-            Refusal::ListedSets => 2,
-            Refusal::SetsCover => 3,
-            Refusal::Memory => 4,
-            Refusal::NoClient => 5,
-            Refusal::NoServer => 6,
-            Refusal::OperationOpen => 7,
-            Refusal::NumbersUsedUp => 8,
-            Refusal::NetworkFull => 9,
-            Refusal::NoMessage => 10,
-            Refusal::NotFailProne => 11,
-            Refusal::ServerCorrect => 12,
-            Refusal::NotServerKind => 13,
-            Refusal::TokenOut => 14,
-            Refusal::Digits => 15,
-            Refusal::UnknownFrame => 16,
-            Refusal::FrameLength => 17,
-            Refusal::OtherKinds => 18,
-            Refusal::NotOpened => 19,
-            Refusal::OpenedTwice => 20,
-            Refusal::ScriptTooLong => 21,
-        }
+impl From<Refusal> for u8 {
+    ghost from_gives = { λ refusal number. number ≡ number_of refusal };
+
+    fn from(refusal: Refusal) -> u8 {
+        refusal as u8
     }
 }
 
 impl fmt::Display for Refusal {
     fn fmt<W: fmt::Write>(&self, f: &mut fmt::Formatter<W>) -> fmt::Result {
-        let number = self.number();
+        let number = u8::from(*self);
         write!(f, "refused with {number}")
     }
 }

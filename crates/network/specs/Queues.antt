@@ -34,6 +34,15 @@ Opened capacity room (Ok net) =
     (first_failed (open_checks capacity room) ≡ None) × (net ≡ record { capacity = capacity; len = 0; lifted = None })
 Opened capacity room (Err e) = first_failed (open_checks capacity room) ≡ Some e
 
+-- the checks that the record goes with the memory and nothing is lifted, in order
+abbrev pub whole_checks : Network → ℕ → List Check
+whole_checks net room = (not (fits net room), Memory) ∷ ((is_some net.lifted, TokenOut) ∷ [])
+
+-- the checks of sending so many messages, in order
+abbrev pub send_checks : Network → ℕ → ℕ → List Check
+send_checks net room sending =
+    (not (fits net room), Memory) ∷ ((is_some net.lifted, TokenOut) ∷ ((nat_lt (net.capacity - net.len) sending, NetworkFull) ∷ []))
+
 -- the checks of posting a message, in order
 abbrev pub post_checks : Network → ℕ → List Check
 post_checks net room =

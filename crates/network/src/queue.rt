@@ -1,7 +1,8 @@
 // The network: a queue of messages in memory that the caller lends, and the token for a message
 // that is lifted from it.
 ghost use Rattle.std.specs.Prelude.{◌≡◌, ℕ, ◌+◌, ◌-◌, ◌<◌, ◌≤◌, Bool, length, slice_index_or};
-ghost use Rattle.network.specs.Queues.{sized, below, fits, closed, Opened, Posted, Taken, Peeked, settled, closed_up, restored};
+ghost use Rattle.calls.specs.Refusals.{first_failed, passed};
+ghost use Rattle.network.specs.Queues.{sized, below, fits, closed, whole_checks, send_checks, Opened, Posted, Taken, Peeked, settled, closed_up, restored};
 
 use crate::message::Message;
 use calls::Refusal;
@@ -46,15 +47,7 @@ impl Network {
     ) -> Result<(), Refusal>
         ensures { Posted self.old memory.old message result self.new memory.new }
     {
-        if !self.fits(memory.len()) {
-            return Err(Refusal::Memory);
-        }
-        if self.lifted.is_some() {
-            return Err(Refusal::TokenOut);
-        }
-        if self.len >= self.capacity {
-            return Err(Refusal::NetworkFull);
-        }
+        self.admits(memory.len(), 1)?;
         memory[self.len] = message;
         self.len += 1;
         Ok(())
@@ -68,12 +61,7 @@ impl Network {
     ) -> Result<(Message<S, V>, Token), Refusal>
         ensures { Taken self.old memory.now place result self.new }
     {
-        if !self.fits(memory.len()) {
-            return Err(Refusal::Memory);
-        }
-        if self.lifted.is_some() {
-            return Err(Refusal::TokenOut);
-        }
+        self.is_whole(memory.len())?;
         if place >= self.len {
             return Err(Refusal::NoMessage);
         }
@@ -123,6 +111,30 @@ impl Network {
         Ok(message)
     }
 
+    // Whether so many messages more may be sent, in a memory of so many.
+    pub fn admits(&self, room: usize, sending: usize) -> Result<(), Refusal>
+        ensures { result ≡ passed (first_failed (send_checks self.now room sending)) }
+    {
+        self.is_whole(room)?;
+        if sending > self.capacity - self.len {
+            return Err(Refusal::NetworkFull);
+        }
+        Ok(())
+    }
+
+    // Whether the record goes with a memory of so many messages, and none is lifted.
+    fn is_whole(&self, room: usize) -> Result<(), Refusal>
+        ensures { result ≡ passed (first_failed (whole_checks self.now room)) }
+    {
+        if !self.fits(room) {
+            return Err(Refusal::Memory);
+        }
+        if self.lifted.is_some() {
+            return Err(Refusal::TokenOut);
+        }
+        Ok(())
+    }
+
     // Whether the record goes with a memory of so many messages.
     pub fn fits(&self, room: usize) -> bool
         ensures { result ≡ fits self.now room }
@@ -142,10 +154,7 @@ fn sized(capacity: usize, room: usize) -> bool
 fn below(place: Option<usize>, len: usize) -> bool
     ensures { result ≡ below place len }
 {
-    match place {
-        Some(place) => place < len,
-        None => true,
-    }
+    place.is_none_or(|place| place < len)
 }
 
 // The message at a place, read field by field.
@@ -168,7 +177,5 @@ fn close_up<S: Copy, V: Copy>(memory: &mut [Message<S, V>], place: usize, len: u
     requires { (place < len) × (len ≤ length memory.old) }
     ensures { memory.new ≡ closed memory.old place len }
 {
-    for i in place..len - 1 {
-        memory[i] = memory[i + 1];
-    }
+    memory.copy_within(place + 1..len, place);
 }

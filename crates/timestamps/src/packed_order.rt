@@ -56,6 +56,7 @@ impl Timestamp for Packed {
     }
 
     fn next(client: u8, a: Packed, b: Packed) -> Option<Packed> {
-        number_above(client, a.max(b).number).map(Packed::new)
+        let number = number_above(client, b.max(a).number)?;
+        Some(Packed::new(number))
     }
 }

@@ -60,6 +60,6 @@ impl Timestamp for Paired {
     }
 
     fn next(client: u8, a: Paired, b: Paired) -> Option<Paired> {
-        Paired::new(a.max(b).count_above(client)?, client)
+        Paired::new(b.max(a).count_above(client)?, client)
     }
 }

@@ -20,13 +20,11 @@ pub enum PriceLine {
 fn bits_agree(x: f64, y: f64) -> bool
     ensures { result ≡ same_bits x y }
 {
-    if x.is_nan() {
-        return y.is_nan();
+    match (x.is_nan(), y.is_nan()) {
+        (true, true) => true,
+        (false, false) => x.to_bits() == y.to_bits(),
+        _ => false,
     }
-    if y.is_nan() {
-        return false;
-    }
-    x.to_bits() == y.to_bits()
 }
 
 // Whether two prices are equal: all that are not numbers are, and 0.0 and -0.0 are not.
@@ -37,6 +35,7 @@ pub fn same_price(x: f64, y: f64) -> bool
     bits_agree(x, y)
 }
 
+// Kept: a derived == would go by the floats' own, which is not exact for 0.0 and for not a number.
 impl Value for PriceLine {
     ghost initial_value = { Absent };
 
@@ -50,12 +49,10 @@ impl Value for PriceLine {
 
     fn is_same(self, other: PriceLine) -> bool {
         match (self, other) {
-            (PriceLine::Absent, PriceLine::Absent) => true,
+            (PriceLine::Absent, PriceLine::Absent) | (PriceLine::Scratched, PriceLine::Scratched) =>
+                true,
             (PriceLine::Quoted(x), PriceLine::Quoted(y)) => same_price(x, y),
-            (PriceLine::Scratched, PriceLine::Scratched) => true,
-            (PriceLine::Absent, _) => false,
-            (PriceLine::Quoted(_), _) => false,
-            (PriceLine::Scratched, _) => false,
+            _ => false,
         }
     }
 }

@@ -32,6 +32,6 @@ impl Value for Total {
     }
 
     fn is_same(self, other: Total) -> bool {
-        self.pence == other.pence
+        self == other
     }
 }
