@@ -1,5 +1,8 @@
 -- A client that reads: what a VALUE makes of what it knows, and when it is done.
 use Rattle.std.specs.Prelude.{ℕ, zero, suc, Bool, true, false, cond, not, ◌&&◌, ◌||◌, List, [], ◌∷◌, ◌++◌, Some, None, Option, ◌==◌, nat_lt}
+use Rattle.quorums.specs.declared.QuorumSystem.{Ghosts as QuorumGhosts}
+use Rattle.timestamps.specs.declared.Timestamp.{Ghosts as TimestampGhosts}
+use Rattle.values.specs.declared.Value.{Ghosts as ValueGhosts}
 
 -- what a reading client asks of the kinds: the servers, the quorums, the fail-prone sets, the order of timestamps, the equality of values
 pub record Rules (S V : Type 0) : Type 0 where
@@ -12,6 +15,10 @@ pub record Rules (S V : Type 0) : Type 0 where
 -- the rules of a quorum system, an order of timestamps and an equality of values
 abbrev pub rules : {S V : Type 0} → ℕ → ((ℕ → Bool) → Bool) → ((ℕ → Bool) → Bool) → (S → S → Bool) → (V → V → Bool) → Rules S V
 rules n quorum fail_prone above same = record { n = n; quorum = quorum; fail_prone = fail_prone; above = above; same = same }
+
+-- the rules of the kinds of a register and of its quorum system
+abbrev pub rules_of : {Q S V : Type 0} → QuorumGhosts Q → TimestampGhosts S → ValueGhosts V → Q → Rules S V
+rules_of Q S V system = rules (Q.size system) (Q.quorum system) (Q.fail_prone system) S.above V.same
 
 -- what a reading client knows: which servers have entered, each one's latest pair, the watched timestamps, and each server's evidence for a timestamp
 pub record Reading (S V : Type 0) : Type 0 where
