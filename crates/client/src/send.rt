@@ -42,7 +42,7 @@ fn message_for<S: Timestamp, V: Value>(
     Message {
         client,
         server,
-        kind: kind.byte(),
+        kind: u8::from(kind),
         number,
         timestamp,
         value,

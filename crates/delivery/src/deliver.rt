@@ -43,7 +43,7 @@ fn kind_named<S: Copy, V: Copy>(message: Message<S, V>, n: u8, m: usize) -> Opti
     if message.server >= n {
         return None;
     }
-    Kind::from_byte(message.kind)
+    Kind::try_from(message.kind).ok()
 }
 
 // Hands a lifted message of a kind to its client or to its server.

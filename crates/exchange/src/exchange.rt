@@ -32,7 +32,7 @@ pub(crate) fn from_client(client: u8, kind: Kind, number: u32) -> Note {
     Message {
         client,
         server: 0,
-        kind: kind.byte(),
+        kind: u8::from(kind),
         number,
         timestamp: Packed::initial(),
         value: Total::initial(),
@@ -46,15 +46,15 @@ fn blank() -> Note {
 
 // The name of the kind that a byte stands for.
 fn name_of(kind: u8) -> &'static str {
-    match Kind::from_byte(kind) {
-        Some(Kind::Query) => "QUERY",
-        Some(Kind::Ts) => "TS",
-        Some(Kind::Store) => "STORE",
-        Some(Kind::Ack) => "ACK",
-        Some(Kind::Read) => "READ",
-        Some(Kind::Value) => "VALUE",
-        Some(Kind::Stop) => "STOP",
-        None => "no kind",
+    match Kind::try_from(kind) {
+        Ok(Kind::Query) => "QUERY",
+        Ok(Kind::Ts) => "TS",
+        Ok(Kind::Store) => "STORE",
+        Ok(Kind::Ack) => "ACK",
+        Ok(Kind::Read) => "READ",
+        Ok(Kind::Value) => "VALUE",
+        Ok(Kind::Stop) => "STOP",
+        Err(_) => "no kind",
     }
 }
 
@@ -70,9 +70,9 @@ impl fmt::Display for InWords {
         write!(f, "{name} {number} of client {client}")?;
         let timestamp = self.0.timestamp.number;
         let total = self.0.value.pence;
-        match Kind::from_byte(self.0.kind) {
-            Some(Kind::Ts) | Some(Kind::Ack) => write!(f, " with timestamp {timestamp}"),
-            Some(Kind::Store) | Some(Kind::Value) => write!(
+        match Kind::try_from(self.0.kind) {
+            Ok(Kind::Ts) | Ok(Kind::Ack) => write!(f, " with timestamp {timestamp}"),
+            Ok(Kind::Store) | Ok(Kind::Value) => write!(
                 f,
                 " with timestamp {timestamp} and total {total}"
             ),

@@ -25,9 +25,9 @@ use values::Value;
 fn may_be_sent(byte: u8) -> bool
     ensures { result ≡ may_be_sent (kind_of byte) }
 {
-    match Kind::from_byte(byte) {
-        Some(kind) => is_from_server(kind),
-        None => false,
+    match Kind::try_from(byte) {
+        Ok(kind) => is_from_server(kind),
+        Err(_) => false,
     }
 }
 

@@ -49,7 +49,7 @@ fn forge(server: u8, client: u8, kind: Kind, number: u32, timestamp: u64, pence:
     Call::Forge {
         server,
         client,
-        kind: kind.byte(),
+        kind: u8::from(kind),
         number,
         timestamp: Packed::new(timestamp),
         value: Total::new(pence),

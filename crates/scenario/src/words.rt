@@ -13,15 +13,15 @@ pub struct AnswerInWords(pub Answer<Packed, Total>);
 
 // The name of the kind that a byte stands for.
 fn name_of(kind: u8) -> &'static str {
-    match Kind::from_byte(kind) {
-        Some(Kind::Query) => "QUERY",
-        Some(Kind::Ts) => "TS",
-        Some(Kind::Store) => "STORE",
-        Some(Kind::Ack) => "ACK",
-        Some(Kind::Read) => "READ",
-        Some(Kind::Value) => "VALUE",
-        Some(Kind::Stop) => "STOP",
-        None => "no kind",
+    match Kind::try_from(kind) {
+        Ok(Kind::Query) => "QUERY",
+        Ok(Kind::Ts) => "TS",
+        Ok(Kind::Store) => "STORE",
+        Ok(Kind::Ack) => "ACK",
+        Ok(Kind::Read) => "READ",
+        Ok(Kind::Value) => "VALUE",
+        Ok(Kind::Stop) => "STOP",
+        Err(_) => "no kind",
     }
 }
 

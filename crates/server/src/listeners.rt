@@ -33,7 +33,7 @@ impl<S: Timestamp> Listener<S> {
     {
         Message {
             client,
-            kind: Kind::Value.byte(),
+            kind: u8::from(Kind::Value),
             number: self.number,
             ..message
         }

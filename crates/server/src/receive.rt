@@ -35,9 +35,9 @@ impl<S: Timestamp, V: Value> Server<S, V> {
         if faulty {
             return 0;
         }
-        match Kind::from_byte(message.kind) {
-            Some(kind) => replies_by_kind(kind, listeners, message),
-            None => 0,
+        match Kind::try_from(message.kind) {
+            Ok(kind) => replies_by_kind(kind, listeners, message),
+            Err(_) => 0,
         }
     }
 
@@ -81,9 +81,9 @@ impl<S: Timestamp, V: Value> Server<S, V> {
         requires room { Room network.old (length memory.old) (length (reacts S.above S.lowest V.initial_value false self.old listeners.old message).sent) }
         ensures { Reacted S.lowest network.old memory.old (reacts S.above S.lowest V.initial_value false self.old listeners.old message) self.new listeners.new network.new memory.new }
     {
-        match Kind::from_byte(message.kind) {
-            Some(kind) => self.react_by_kind(kind, listeners, network, memory, message),
-            None => {}
+        match Kind::try_from(message.kind) {
+            Ok(kind) => self.react_by_kind(kind, listeners, network, memory, message),
+            Err(_) => {}
         }
     }
 

@@ -20,7 +20,7 @@ pub(crate) fn reply<S: Timestamp, V: Value>(
     ensures { result ≡ reply message kind timestamp value }
 {
     Message {
-        kind: kind.byte(),
+        kind: u8::from(kind),
         timestamp,
         value,
         ..message

@@ -1,6 +1,6 @@
 // The network: its limits, the order of its checks, and its token.
 use calls::Refusal;
-use network::message::{Kind, Message};
+use network::message::{Kind, Message, UnknownKind};
 use network::queue::Network;
 use std::process::Abort;
 use std::test::Fail;
@@ -46,7 +46,7 @@ fn record(capacity: usize, len: usize, lifted: Option<usize>) -> Network {
 fn number_of(refused: Result<(), Refusal>) -> u8 {
     match refused {
         Ok(()) => 0,
-        Err(refusal) => refusal.number(),
+        Err(refusal) => u8::from(refusal),
     }
 }
 
@@ -57,7 +57,7 @@ fn looked_at(network: &mut Network, memory: &[Note], place: usize) -> Result<u32
             network.put_back(memory, token);
             Ok(message.number)
         }
-        Err(refusal) => Err(refusal.number()),
+        Err(refusal) => Err(u8::from(refusal)),
     }
 }
 
@@ -73,11 +73,11 @@ fn kinds_have_the_bytes_1_to_7(rt: HostRuntime) {
         (Kind::Stop, 7),
     ];
     for (kind, byte) in kinds {
-        assert_eq!(rt; kind.byte(), byte);
-        assert_eq!(rt; Kind::from_byte(byte), Some(kind));
+        assert_eq!(rt; u8::from(kind), byte);
+        assert_eq!(rt; Kind::try_from(byte), Ok(kind));
     }
     for byte in [0, 8, 9, 254, 255] {
-        assert_eq!(rt; Kind::from_byte(byte), None);
+        assert_eq!(rt; Kind::try_from(byte), Err(UnknownKind(byte)));
     }
 }
 
@@ -89,7 +89,7 @@ fn opening(rt: &impl Abort, memory: &[Note], capacity: usize, room: usize) -> Re
             assert_eq!(rt; network, record(capacity, 0, None));
             Ok(0)
         }
-        Err(refusal) => Ok(refusal.number()),
+        Err(refusal) => Ok(u8::from(refusal)),
     }
 }
 

@@ -16,7 +16,7 @@ fn opening(rt: &impl Abort, n: u8, sets: &[ServerSet]) -> Result<u8, Fail> {
             assert_eq!(rt; system.servers(), n);
             Ok(0)
         }
-        Err(refusal) => Ok(refusal.number()),
+        Err(refusal) => Ok(u8::from(refusal)),
     }
 }
 

@@ -13,7 +13,7 @@ fn opening(rt: &impl Abort, n: u8, f: u8) -> Result<u8, Fail> {
             assert_eq!(rt; system.f, f);
             Ok(0)
         }
-        Err(refusal) => Ok(refusal.number()),
+        Err(refusal) => Ok(u8::from(refusal)),
     }
 }
 

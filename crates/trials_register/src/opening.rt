@@ -34,7 +34,7 @@ fn opening(fixture: &mut Fixture, lent: [usize; 5]) -> u8 {
             fixture.register = register;
             0
         }
-        Err(refusal) => refusal.number(),
+        Err(refusal) => u8::from(refusal),
     }
 }
 
@@ -132,14 +132,14 @@ fn limits_hold_however_much_memory_there_is(rt: HostRuntime) -> Result<(), Fail>
 fn threshold(n: u8, f: u8) -> u8 {
     match Threshold::open(n, f) {
         Ok(_) => 0,
-        Err(refusal) => refusal.number(),
+        Err(refusal) => u8::from(refusal),
     }
 }
 
 fn listed(n: u8, sets: &[ServerSet]) -> u8 {
     match Listed::open(n, sets) {
         Ok(_) => 0,
-        Err(refusal) => refusal.number(),
+        Err(refusal) => u8::from(refusal),
     }
 }
 

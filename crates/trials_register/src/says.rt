@@ -34,7 +34,7 @@ pub(crate) fn in_short(answer: Answer<Packed, Total>) -> Said {
         Answer::Spent { client, number } => Said::Spent(client, number),
         Answer::Turned => Said::Turned,
         Answer::Forged => Said::Forged,
-        Answer::Refused(refusal) => Said::Refused(refusal.number()),
+        Answer::Refused(refusal) => Said::Refused(u8::from(refusal)),
     }
 }
 

@@ -74,7 +74,7 @@ impl Lent {
         );
         match played {
             Ok(_) => Ok(0),
-            Err(refusal) => Ok(refusal.number()),
+            Err(refusal) => Ok(u8::from(refusal)),
         }
     }
 

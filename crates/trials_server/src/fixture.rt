@@ -111,7 +111,7 @@ impl Fixture {
         );
         match taken {
             Ok(()) => 0,
-            Err(refusal) => refusal.number(),
+            Err(refusal) => u8::from(refusal),
         }
     }
 

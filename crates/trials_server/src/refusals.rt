@@ -136,7 +136,7 @@ fn taking_in_row(rt: &impl Abort, clients: usize, client: u8) -> Result<u8, Fail
     );
     match taken {
         Ok(()) => Ok(0),
-        Err(refusal) => Ok(refusal.number()),
+        Err(refusal) => Ok(u8::from(refusal)),
     }
 }
 

@@ -23,7 +23,7 @@ fn store<S: Timestamp, V: Value>(server: u8, timestamp: S, value: V) -> Message<
     Message {
         client: 0,
         server,
-        kind: Kind::Store.byte(),
+        kind: u8::from(Kind::Store),
         number: 1,
         timestamp,
         value,
@@ -55,7 +55,7 @@ fn confirmed<S: Timestamp, V: Value>(
     let mut network = Network::open(1, memory)?;
     hand_over(server, listeners, &mut network, memory, message)?;
     let ack = oldest(&mut network, memory)?;
-    assert_eq!(rt; ack.kind, Kind::Ack.byte());
+    assert_eq!(rt; ack.kind, u8::from(Kind::Ack));
     assert!(rt; !ack.timestamp.is_above(message.timestamp));
     assert!(rt; !message.timestamp.is_above(ack.timestamp));
     Ok(ack.server)
