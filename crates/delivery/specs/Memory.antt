@@ -1,5 +1,5 @@
 -- A register's lent memory as the protocol sees it.
-use Rattle.std.specs.Prelude.{ℕ, ◌+◌, ◌*◌, Bool, cond, List, [], length, take, drop, nat_lt, slice_index_or}
+use Rattle.std.specs.Prelude.{◌≡◌, ℕ, ◌+◌, ◌*◌, Bool, cond, List, [], length, take, drop, nat_lt, slice_index_or}
 use Rattle.network.specs.declared.message.Message.{Message}
 use Rattle.quorums.specs.Sets.{members}
 use Rattle.quorums.specs.declared.sets.ServerSet.{ServerSet}
@@ -17,6 +17,7 @@ use Rattle.client.specs.Showing.{client_of}
 use Rattle.client.specs.declared.state.Client.{Client}
 use Rattle.client.specs.declared.state.Phase.TheVariants.{Idle}
 use Rattle.delivery.specs.Sizes.{enough_for}
+use Rattle.delivery.specs.declared.memory.Memory.{Memory}
 use Rattle.delivery.specs.declared.sizes.Sizes.{Sizes}
 
 -- the i-th of the parts of so many entries
@@ -55,6 +56,18 @@ pub record Lent (S V : Type 0) : Type 0 where
 abbrev pub lent : {S V : Type 0} → List (Server S V) → List (Client S V) → List (Listener S) → List (Message S V) → List (Report S V) → Lent S V
 lent servers clients listeners messages reports =
     record { servers = servers; clients = clients; listeners = listeners; messages = messages; reports = reports }
+
+-- what the lent memory holds
+abbrev pub contents : {S V : Type 0} → Memory S V → Lent S V
+contents x = lent x.servers.now x.clients.now x.listeners.now x.messages.now x.reports.now
+
+-- the same memory is lent still, whatever it holds
+pub record SameLoans {S V : Type 0} (x x' : Memory S V) : Type 0 where
+  pub servers : x'.servers.ghost_name ≡ x.servers.ghost_name
+  pub clients : x'.clients.ghost_name ≡ x.clients.ghost_name
+  pub listeners : x'.listeners.ghost_name ≡ x.listeners.ghost_name
+  pub messages : x'.messages.ghost_name ≡ x.messages.ghost_name
+  pub reports : x'.reports.ghost_name ≡ x.reports.ghost_name
 
 -- how much of each memory there is
 abbrev pub sizes_of : {S V : Type 0} → Lent S V → Sizes

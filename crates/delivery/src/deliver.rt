@@ -2,24 +2,20 @@
 ghost use Rattle.std.specs.Prelude.{◌≡◌, ◌<◌, true, length, Some};
 ghost use Rattle.network.specs.Kinds.{kind_of};
 ghost use Rattle.network.specs.Queues.{fits};
-ghost use Rattle.reading.specs.Readings.{rules};
-ghost use Rattle.protocol.specs.Settings.{setting};
+ghost use Rattle.protocol.specs.Settings.{setting_of};
 ghost use Rattle.protocol.specs.Protocol.{from_server};
 ghost use Rattle.delivery.specs.Sizes.{enough_for};
-ghost use Rattle.delivery.specs.Memory.{lent, sizes_of};
+ghost use Rattle.delivery.specs.Memory.{SameLoans, contents, sizes_of};
 ghost use Rattle.delivery.specs.Answering.{Delivery};
 ghost use Rattle.delivery.specs.Handing.{kind_named, HandedByKind, HandedOver};
 
 use crate::hand::{hand_to_client, hand_to_server, refuse};
-use crate::sizes::Sizes;
+use crate::memory::Memory;
 use calls::{Answer, Refusal};
-use client::state::Client;
 use network::message::{Kind, Message};
 use network::queue::{Network, Token};
 use quorums::QuorumSystem;
 use quorums::sets::ServerSet;
-use reading::reports::Report;
-use server::state::{Listener, Server};
 use timestamps::Timestamp;
 use values::Value;
 
@@ -34,8 +30,8 @@ pub fn is_from_server(kind: Kind) -> bool
 }
 
 // The kind of a message that names a client, a server and a kind that are there.
-fn kind_named<S: Copy, V: Copy>(message: Message<S, V>, n: u8, m: usize) -> Option<Kind>
-    ensures { result ≡ kind_named n m message }
+fn kind_named<S: Copy, V: Copy>(message: &Message<S, V>, n: u8, m: usize) -> Option<Kind>
+    ensures { result ≡ kind_named n m message.now }
 {
     if message.client as usize >= m {
         return None;
@@ -52,11 +48,7 @@ fn hand_by_kind<Q: QuorumSystem, S: Timestamp, V: Value>(
     m: usize,
     faulty: ServerSet,
     network: &mut Network,
-    servers: &mut [Server<S, V>],
-    clients: &mut [Client<S, V>],
-    listeners: &mut [Listener<S>],
-    messages: &mut [Message<S, V>],
-    reports: &mut [Report<S, V>],
+    memory: &mut Memory<'_, S, V>,
     message: Message<S, V>,
     kind: Kind,
     token: Token,
@@ -64,18 +56,33 @@ fn hand_by_kind<Q: QuorumSystem, S: Timestamp, V: Value>(
     requires client { message.client < m }
     requires server { message.server < Q.size system.now }
     requires named { kind_of message.kind ≡ Some kind }
-    requires fits { fits network.old (length messages.old) ≡ true }
-    requires enough { enough_for (Q.size system.now) m network.old.capacity network.old.len (sizes_of (lent servers.old clients.old listeners.old messages.old reports.old)) ≡ true }
-    ensures { HandedByKind (setting m network.old.capacity 4294967295 (rules (Q.size system.now) (Q.quorum system.now) (Q.fail_prone system.now) S.above V.same) S.owner S.lowest S.successor V.initial_value) network.old faulty (lent servers.old clients.old listeners.old messages.old reports.old) message kind result network.new (lent servers.new clients.new listeners.new messages.new reports.new) }
+    requires fits { fits network.old (length memory.old.messages.now) ≡ true }
+    requires enough { enough_for (Q.size system.now) m network.old.capacity network.old.len (sizes_of (contents memory.old)) ≡ true }
+    ensures loans { SameLoans memory.old memory.new }
+    ensures handed { HandedByKind (setting_of Q.QuorumSystem S.Timestamp V.Value system.now m network.old.capacity 4294967295) network.old faulty (contents memory.old) message kind result network.new (contents memory.new) }
 {
     if is_from_server(kind) {
         return hand_to_client(
-            system, clients, reports, network, messages, message, kind, token,
+            system,
+            memory.clients,
+            memory.reports,
+            network,
+            memory.messages,
+            message,
+            kind,
+            token,
         );
     }
     let is_faulty = faulty.contains(message.server);
     hand_to_server(
-        servers, listeners, network, messages, m, message, token, is_faulty,
+        memory.servers,
+        memory.listeners,
+        network,
+        memory.messages,
+        m,
+        message,
+        token,
+        is_faulty,
     )
 }
 
@@ -85,25 +92,22 @@ fn hand_over<Q: QuorumSystem, S: Timestamp, V: Value>(
     m: usize,
     faulty: ServerSet,
     network: &mut Network,
-    servers: &mut [Server<S, V>],
-    clients: &mut [Client<S, V>],
-    listeners: &mut [Listener<S>],
-    messages: &mut [Message<S, V>],
-    reports: &mut [Report<S, V>],
+    memory: &mut Memory<'_, S, V>,
     message: Message<S, V>,
     token: Token,
 ) -> Answer<S, V>
-    requires fits { fits network.old (length messages.old) ≡ true }
-    requires enough { enough_for (Q.size system.now) m network.old.capacity network.old.len (sizes_of (lent servers.old clients.old listeners.old messages.old reports.old)) ≡ true }
-    ensures { HandedOver (setting m network.old.capacity 4294967295 (rules (Q.size system.now) (Q.quorum system.now) (Q.fail_prone system.now) S.above V.same) S.owner S.lowest S.successor V.initial_value) network.old faulty (lent servers.old clients.old listeners.old messages.old reports.old) message result network.new (lent servers.new clients.new listeners.new messages.new reports.new) }
+    requires fits { fits network.old (length memory.old.messages.now) ≡ true }
+    requires enough { enough_for (Q.size system.now) m network.old.capacity network.old.len (sizes_of (contents memory.old)) ≡ true }
+    ensures loans { SameLoans memory.old memory.new }
+    ensures handed { HandedOver (setting_of Q.QuorumSystem S.Timestamp V.Value system.now m network.old.capacity 4294967295) network.old faulty (contents memory.old) message result network.new (contents memory.new) }
 {
     let n = system.servers();
-    match kind_named(message, n, m) {
-        Some(kind) => hand_by_kind(
-            system, m, faulty, network, servers, clients, listeners, messages, reports, message,
-            kind, token,
-        ),
-        None => refuse(network, messages, token, Refusal::Memory),
+    match kind_named(&message, n, m) {
+        Some(kind) => hand_by_kind(system, m, faulty, network, memory, message, kind, token),
+        None => {
+            let messages = &mut *memory.messages;
+            refuse(network, messages, token, Refusal::Memory)
+        }
     }
 }
 
@@ -115,18 +119,14 @@ pub fn deliver<Q: QuorumSystem, S: Timestamp, V: Value>(
     capacity: usize,
     faulty: ServerSet,
     len: &mut usize,
-    servers: &mut [Server<S, V>],
-    clients: &mut [Client<S, V>],
-    listeners: &mut [Listener<S>],
-    messages: &mut [Message<S, V>],
-    reports: &mut [Report<S, V>],
+    memory: &mut Memory<'_, S, V>,
     place: usize,
 ) -> Answer<S, V>
-    ensures { Delivery (setting m capacity 4294967295 (rules (Q.size system.now) (Q.quorum system.now) (Q.fail_prone system.now) S.above V.same) S.owner S.lowest S.successor V.initial_value) len.old faulty (lent servers.old clients.old listeners.old messages.old reports.old) place result len.new (lent servers.new clients.new listeners.new messages.new reports.new) }
+    ensures loans { SameLoans memory.old memory.new }
+    ensures delivered { Delivery (setting_of Q.QuorumSystem S.Timestamp V.Value system.now m capacity 4294967295) len.old faulty (contents memory.old) place result len.new (contents memory.new) }
 {
     let n = system.servers();
-    let sizes = Sizes::of(servers, clients, listeners, messages, reports);
-    if !sizes.suffice(n, m, capacity, *len) {
+    if !memory.sizes().suffice(n, m, capacity, *len) {
         return Answer::Refused(Refusal::Memory);
     }
     let mut network = Network {
@@ -134,21 +134,10 @@ pub fn deliver<Q: QuorumSystem, S: Timestamp, V: Value>(
         len: *len,
         lifted: None,
     };
+    let messages = &mut *memory.messages;
     match network.take(messages, place) {
         Ok((message, token)) => {
-            let answer = hand_over(
-                system,
-                m,
-                faulty,
-                &mut network,
-                servers,
-                clients,
-                listeners,
-                messages,
-                reports,
-                message,
-                token,
-            );
+            let answer = hand_over(system, m, faulty, &mut network, memory, message, token);
             *len = network.len;
             answer
         }

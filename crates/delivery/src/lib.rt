@@ -4,5 +4,6 @@
 mod attend;
 pub mod deliver;
 mod hand;
+pub mod memory;
 mod serve;
 pub mod sizes;

@@ -2,9 +2,8 @@ use Rattle.std.proofs.Common.{◌≡◌, ℕ, false, ◌+◌, ◌-◌, ◌*◌, 
 use borrow.Author.Rules.{scaled_fits≤}
 use borrow.Rule.Slice.PartMut.{put_mid}
 use Rattle.std.proofs.lemmas.List.{length-take-le, length-drop, get_or_default}
-use Rattle.reading.specs.Readings.{rules}
 use Rattle.reading.specs.Reports.{blank}
-use Rattle.protocol.specs.Settings.{setting}
+use Rattle.protocol.specs.Settings.{setting_of}
 use Rattle.client.specs.Taking.{hears_value, TakenIn}
 use Rattle.client.specs.declared.state.Client.{Client}
 use Rattle.delivery.specs.Memory.{part, new_client}
@@ -52,7 +51,7 @@ returns-clause-attended g c m few =
     let k = c.entries_for-count.result in
     let size : k ≡ n * (n + 1) = c.entries_for-count.ensures ∙ ap (λ x. x * (x + 1)) c.servers.ensures in
     let ends : c.args.message.client * k + k ≤ length c.args.reports.now = subst (λ x. c.args.message.client * x + x ≤ length c.args.reports.now) (sym size) c.requires.part in
-    let K = setting 0 0 0 (rules n (g.Q.QuorumSystem.quorum q) (g.Q.QuorumSystem.fail_prone q) g.S.Timestamp.above g.V.Value.same) g.S.Timestamp.owner g.S.Timestamp.lowest g.S.Timestamp.successor g.V.Value.initial_value in
+    let K = setting_of g.Q.QuorumSystem g.S.Timestamp g.V.Value q 0 0 0 in
     let first : Client g.row.S.Denot g.row.V.Denot = new_client g.S.Timestamp.lowest in
     let cs = c.args.clients.now in
     let ps = c.args.reports.now in
@@ -84,7 +83,7 @@ returns-clause-kept g c m few =
     let k = c.entries_for-count.result in
     let size : k ≡ n * (n + 1) = c.entries_for-count.ensures ∙ ap (λ x. x * (x + 1)) c.servers.ensures in
     let ends : c.args.message.client * k + k ≤ length c.args.reports.now = subst (λ x. c.args.message.client * x + x ≤ length c.args.reports.now) (sym size) c.requires.part in
-    let K = setting 0 0 0 (rules n (g.Q.QuorumSystem.quorum q) (g.Q.QuorumSystem.fail_prone q) g.S.Timestamp.above g.V.Value.same) g.S.Timestamp.owner g.S.Timestamp.lowest g.S.Timestamp.successor g.V.Value.initial_value in
+    let K = setting_of g.Q.QuorumSystem g.S.Timestamp g.V.Value q 0 0 0 in
     let first : Client g.row.S.Denot g.row.V.Denot = new_client g.S.Timestamp.lowest in
     let cs = c.args.clients.now in
     let ps = c.args.reports.now in

@@ -1,6 +1,5 @@
 use Rattle.std.proofs.Common.{ℕ, ◌≤◌, length, subst}
-use Rattle.reading.specs.Readings.{rules}
-use Rattle.protocol.specs.Settings.{setting}
+use Rattle.protocol.specs.Settings.{setting_of}
 use Rattle.client.specs.Showing.{messages_of}
 use Rattle.delivery.specs.Handing.{room_without, Replaced}
 use Rattle.delivery.proofs.Settling.{client_full, client_fits}
@@ -9,7 +8,7 @@ use Rattle.delivery.proofs.hand.hand_to_client.Goals as goal
 pub returns-in-Ok : goal.returns-in-Ok
 returns-in-Ok g c m place within is =
     let q = c.args.system.now in
-    let K = setting 0 0 0 (rules (g.Q.QuorumSystem.size q) (g.Q.QuorumSystem.quorum q) (g.Q.QuorumSystem.fail_prone q) g.S.Timestamp.above g.V.Value.same) g.S.Timestamp.owner g.S.Timestamp.lowest g.S.Timestamp.successor g.V.Value.initial_value in
+    let K = setting_of g.Q.QuorumSystem g.S.Timestamp g.V.Value q 0 0 0 in
     let net = c.args.network.now in
     let memory = c.args.messages.now in
     let given = c.in-Ok.given in
@@ -22,7 +21,7 @@ returns-in-Ok g c m place within is =
 pub returns-in-Err : goal.returns-in-Err
 returns-in-Err g c m place within is =
     let q = c.args.system.now in
-    let K = setting 0 0 0 (rules (g.Q.QuorumSystem.size q) (g.Q.QuorumSystem.quorum q) (g.Q.QuorumSystem.fail_prone q) g.S.Timestamp.above g.V.Value.same) g.S.Timestamp.owner g.S.Timestamp.lowest g.S.Timestamp.successor g.V.Value.initial_value in
+    let K = setting_of g.Q.QuorumSystem g.S.Timestamp g.V.Value q 0 0 0 in
     client_full K m c.args.clients.now c.args.reports.now c.args.network.now c.args.messages.now c.args.message c.args.kind place c.requires.fits is
     c.room_without-room.result c.in-Err.refusal c.refuse.result c.attend.new.clients c.attend.new.reports c.refuse.new.network
     c.room_without-room.ensures (c.in-Err.ensures.attended m within) c.refuse.ensures.answer c.refuse.ensures.network
