@@ -14,8 +14,7 @@ use Rattle.network.specs.declared.message.Kind.TheVariants.{Query, Ts, Store, Ac
 use Rattle.protocol.specs.Clients as protocol
 use Rattle.protocol.specs.Clients.{to_all, from_client, reading, unchanged, on_ts, on_ack, decided, on_value, awaited}
 use Rattle.client.specs.declared.state.Client.{Client}
-use Rattle.client.specs.declared.state.Dispatch.{Dispatch}
-use Rattle.client.specs.declared.state.Dispatch.TheVariants.{Nothing, ToAll}
+use Rattle.client.specs.declared.state.Broadcast.{Broadcast}
 use Rattle.client.specs.declared.state.Outcome.{Outcome}
 use Rattle.client.specs.Showing.{client_of, messages_of, outcome_of}
 use Rattle.client.specs.Taking.{sending, Fitting, Weighed, Weighs}
@@ -71,25 +70,25 @@ module _ {S V : Type 0} (K : Setting S V) (d : Report S V) where
         decided_full m.client room x (view K.rules.above d K.rules.n p) (after_value K.rules d p m.server m.timestamp m.value) _ short some
 
 -- as many messages as are counted
-pub length-messages : {S V : Type 0} (n c : ℕ) (x : Dispatch S V) → length (messages_of n c x) ≡ sending n x
-length-messages n c Nothing = refl
-length-messages n c (ToAll kind number timestamp value) = length-to_all n (λ b. from_client c b kind number timestamp value)
+pub length-messages : {S V : Type 0} (n c : ℕ) (x : Option (Broadcast S V)) → length (messages_of n c x) ≡ sending n x
+length-messages n c None = refl
+length-messages n c (Some x) = length-to_all n (λ b. from_client c b x.kind x.number x.timestamp x.value)
 
 module _ {S V : Type 0} (K : Setting S V) (d : Report S V) (p : List (Report S V)) (m : Message S V) (room : ℕ) where
   -- an outcome that leaves the reports alone, weighed against the room
   pub weigh_fitting : (n : ℕ) (o : Outcome S V) (e : protocol.Outcome S V) (r : Result (Outcome S V) Refusal) → n ≡ K.rules.n
       → outcome_of K.rules.n m.client o (view K.rules.above d K.rules.n p) ≡ e → Fitting n room o r → Weighs K d p m e room r p
   weigh_fitting n o e (Ok r) size is fit =
-      let counted : length e.sent ≡ sending K.rules.n o.dispatch = ap (λ z. length z.sent) (sym is) ∙ length-messages K.rules.n m.client o.dispatch in
-      let asked : sending n o.dispatch ≡ sending K.rules.n o.dispatch = ap (λ k. sending k o.dispatch) size in
+      let counted : length e.sent ≡ sending K.rules.n o.broadcast = ap (λ z. length z.sent) (sym is) ∙ length-messages K.rules.n m.client o.broadcast in
+      let asked : sending n o.broadcast ≡ sending K.rules.n o.broadcast = ap (λ k. sending k o.broadcast) size in
       record {
         outcome_is = ap (λ z. outcome_of K.rules.n m.client z (view K.rules.above d K.rules.n p)) fit.0 ∙ is;
         fits = omega (arith, counted, asked, fit.1);
         rest_after = refl;
       }
   weigh_fitting n o e (Err refusal) size is fit =
-      let counted : length e.sent ≡ sending K.rules.n o.dispatch = ap (λ z. length z.sent) (sym is) ∙ length-messages K.rules.n m.client o.dispatch in
-      let asked : sending n o.dispatch ≡ sending K.rules.n o.dispatch = ap (λ k. sending k o.dispatch) size in
+      let counted : length e.sent ≡ sending K.rules.n o.broadcast = ap (λ z. length z.sent) (sym is) ∙ length-messages K.rules.n m.client o.broadcast in
+      let asked : sending n o.broadcast ≡ sending K.rules.n o.broadcast = ap (λ k. sending k o.broadcast) size in
       (fit.0, omega (arith, counted, asked, fit.1), refl)
 
   -- a message that is dropped

@@ -16,8 +16,7 @@ use Rattle.protocol.specs.Clients as protocol
 use Rattle.client.specs.declared.state.Client.{Client}
 use Rattle.client.specs.declared.state.Phase.{Phase}
 use Rattle.client.specs.declared.state.Phase.TheVariants as phase
-use Rattle.client.specs.declared.state.Dispatch.{Dispatch}
-use Rattle.client.specs.declared.state.Dispatch.TheVariants.{Nothing, ToAll}
+use Rattle.client.specs.declared.state.Broadcast.{Broadcast}
 use Rattle.client.specs.declared.state.Outcome.{Outcome}
 use Rattle.client.specs.Showing.{client_of, outcome_of}
 
@@ -50,14 +49,14 @@ abbrev pub hears_value : {S V : Type 0} → Client S V → Message S V → Kind 
 hears_value x m kind = is_reading x.phase && (m.number == x.number && is_value kind)
 
 -- how many messages go to the n servers
-abbrev pub sending : {S V : Type 0} → ℕ → Dispatch S V → ℕ
-sending n Nothing = 0
-sending n (ToAll kind number timestamp value) = n
+abbrev pub sending : {S V : Type 0} → ℕ → Option (Broadcast S V) → ℕ
+sending n None = 0
+sending n (Some x) = n
 
 -- an outcome, unless it sends more messages than there is room
 abbrev pub Fitting : {S V : Type 0} → (n room : ℕ) → Outcome S V → Result (Outcome S V) Refusal → Type 0
-Fitting n room o (Ok r) = (r ≡ o) × (sending n o.dispatch ≤ room)
-Fitting n room o (Err e) = (e ≡ NetworkFull) × (room < sending n o.dispatch)
+Fitting n room o (Ok r) = (r ≡ o) × (sending n o.broadcast ≤ room)
+Fitting n room o (Err e) = (e ≡ NetworkFull) × (room < sending n o.broadcast)
 
 -- a VALUE that may not end the read: it is heard where nothing is decided, and where it would end the read, the reports from the i-th on stay
 abbrev pub Tried : {S V : Type 0} → Rules S V → Report S V → ℕ → List (Report S V) → ℕ → S → V → Option (S × V) → List (Report S V) → Type 0
@@ -93,10 +92,10 @@ module _ {S V : Type 0} (K : Setting S V) (d : Report S V) where
       first_failed ((not (enough_memory K.rules.n p m.server), Memory) ∷ ((nat_lt room (length (expected x p m kind).sent), NetworkFull) ∷ []))
 
   -- a message taken in: client, reports, answer and what goes to the servers are as the protocol says; refused: all is as it was
-  abbrev pub TakenIn : Client S V → List (Report S V) → Message S V → Kind → ℕ → Result (Answer S V × Dispatch S V) Refusal → Client S V → List (Report S V) → Type 0
+  abbrev pub TakenIn : Client S V → List (Report S V) → Message S V → Kind → ℕ → Result (Answer S V × Option (Broadcast S V)) Refusal → Client S V → List (Report S V) → Type 0
   TakenIn x p m kind room (Ok given) x' p' =
       (refusal x p m kind room ≡ None)
-      × (outcome_of K.rules.n m.client (record { client = x'; answer = given.0; dispatch = given.1 }) (view K.rules.above d K.rules.n p') ≡ expected x p m kind)
+      × (outcome_of K.rules.n m.client (record { client = x'; answer = given.0; broadcast = given.1 }) (view K.rules.above d K.rules.n p') ≡ expected x p m kind)
       × (drop (K.rules.n * (K.rules.n + 1)) p' ≡ drop (K.rules.n * (K.rules.n + 1)) p)
   TakenIn x p m kind room (Err e) x' p' = (refusal x p m kind room ≡ Some e) × (x' ≡ x) × (p' ≡ p)
 
@@ -108,16 +107,16 @@ module _ {S V : Type 0} (K : Setting S V) (d : Report S V) where
       ∷ ((nat_le 4294967295 x.number, NumbersUsedUp) ∷ ((nat_lt room K.rules.n, NetworkFull) ∷ [])))
 
   -- begun: client, answer and what goes to the servers are as the protocol says; refused: the client is as it was
-  abbrev pub BegunWrite : Client S V → ℕ → V → ℕ → Result (Answer S V × Dispatch S V) Refusal → Client S V → Type 0
+  abbrev pub BegunWrite : Client S V → ℕ → V → ℕ → Result (Answer S V × Option (Broadcast S V)) Refusal → Client S V → Type 0
   BegunWrite x c v room (Ok given) x' =
       (begin_refusal x room ≡ None)
-      × ((known : Reading S V) → outcome_of K.rules.n c (record { client = x'; answer = given.0; dispatch = given.1 }) known ≡ protocol.begins_write K c (client_of x known) v)
+      × ((known : Reading S V) → outcome_of K.rules.n c (record { client = x'; answer = given.0; broadcast = given.1 }) known ≡ protocol.begins_write K c (client_of x known) v)
   BegunWrite x c v room (Err e) x' = (begin_refusal x room ≡ Some e) × (x' ≡ x)
 
   -- begun: the reports are all blank, so that nothing is known; refused: client and reports are as they were
-  abbrev pub BegunRead : Client S V → List (Report S V) → ℕ → ℕ → Result (Answer S V × Dispatch S V) Refusal → Client S V → List (Report S V) → Type 0
+  abbrev pub BegunRead : Client S V → List (Report S V) → ℕ → ℕ → Result (Answer S V × Option (Broadcast S V)) Refusal → Client S V → List (Report S V) → Type 0
   BegunRead x p c room (Ok given) x' p' =
       (begin_refusal x room ≡ None)
-      × (outcome_of K.rules.n c (record { client = x'; answer = given.0; dispatch = given.1 }) (view K.rules.above d K.rules.n p') ≡ protocol.begins_read K c (client_of x (view K.rules.above d K.rules.n p)))
+      × (outcome_of K.rules.n c (record { client = x'; answer = given.0; broadcast = given.1 }) (view K.rules.above d K.rules.n p') ≡ protocol.begins_read K c (client_of x (view K.rules.above d K.rules.n p)))
       × (p' ≡ replicate (length p) d)
   BegunRead x p c room (Err e) x' p' = (begin_refusal x room ≡ Some e) × (x' ≡ x) × (p' ≡ p)

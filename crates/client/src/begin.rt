@@ -1,14 +1,14 @@
 // How a client begins an operation.
 ghost use Rattle.std.specs.Prelude.{◌≡◌, ◌<◌, length, replicate};
 ghost use Rattle.client.specs.declared.state.Phase.TheVariants.{Idle};
-ghost use Rattle.reading.specs.Readings.{rules, unread};
+ghost use Rattle.calls.specs.Refusals.{passed};
+ghost use Rattle.reading.specs.Readings.{unread};
 ghost use Rattle.reading.specs.Reports.{blank, view};
-ghost use Rattle.protocol.specs.Settings.{setting};
 ghost use Rattle.protocol.specs.Clients.{reading, begins};
-ghost use Rattle.client.specs.Showing.{phase_of, client_of, outcome_of};
+ghost use Rattle.client.specs.Showing.{kinds_of, phase_of, client_of, outcome_of};
 ghost use Rattle.client.specs.Taking.{is_resting, begin_refusal, BegunWrite, BegunRead};
 
-use crate::state::{Client, Dispatch, Outcome, Phase};
+use crate::state::{Broadcast, Client, Outcome, Phase};
 use calls::{Answer, Refusal};
 use network::message::Kind;
 use quorums::QuorumSystem;
@@ -19,6 +19,20 @@ use timestamps::Timestamp;
 use values::Value;
 
 pub const MOST_OPERATIONS: u32 = 4_294_967_295;
+
+impl<S: Timestamp, V: Value> Broadcast<S, V> {
+    // One with the initial timestamp and value.
+    pub(crate) fn plain(kind: Kind, number: u32) -> Broadcast<S, V>
+        ensures { result ≡ record { kind = kind; number = number; timestamp = S.lowest; value = V.initial_value } }
+    {
+        Broadcast {
+            kind,
+            number,
+            timestamp: S::initial(),
+            value: V::initial(),
+        }
+    }
+}
 
 impl<S: Timestamp, V: Value> Client<S, V> {
     // A client at first.
@@ -36,28 +50,23 @@ impl<S: Timestamp, V: Value> Client<S, V> {
     fn rests(&self) -> bool
         ensures { result ≡ is_resting self.now.phase }
     {
-        match self.phase {
-            Phase::Idle => true,
-            Phase::Asking { .. } => false,
-            Phase::Storing { .. } => false,
-            Phase::Reading => false,
-        }
+        matches!(self.phase, Phase::Idle)
     }
 
-    // Why no operation may begin, if it may not.
-    fn refuses<Q: QuorumSystem>(&self, system: &Q, room: usize) -> Option<Refusal>
-        ensures { result ≡ begin_refusal (setting 0 0 0 (rules (Q.size system.now) (Q.quorum system.now) (Q.fail_prone system.now) S.above V.same) S.owner S.lowest S.successor V.initial_value) (blank S.lowest V.initial_value) self.now room }
+    // Whether an operation may begin, where there is room for so many messages.
+    fn may_begin<Q: QuorumSystem>(&self, system: &Q, room: usize) -> Result<(), Refusal>
+        ensures { result ≡ passed (begin_refusal (kinds_of Q.QuorumSystem S.Timestamp V.Value system.now) (blank S.lowest V.initial_value) self.now room) }
     {
         if !self.rests() {
-            return Some(Refusal::OperationOpen);
+            return Err(Refusal::OperationOpen);
         }
         if self.number >= MOST_OPERATIONS {
-            return Some(Refusal::NumbersUsedUp);
+            return Err(Refusal::NumbersUsedUp);
         }
         if room < system.servers() as usize {
-            return Some(Refusal::NetworkFull);
+            return Err(Refusal::NetworkFull);
         }
-        None
+        Ok(())
     }
 
     // An operation under the next number, whose message goes to every server.
@@ -69,22 +78,17 @@ impl<S: Timestamp, V: Value> Client<S, V> {
         kind: Kind,
     ) -> Outcome<S, V>
         requires { self.now.number < 4294967295 }
-        ensures { (known : _) → outcome_of (Q.size system.now) client result known ≡ begins (setting 0 0 0 (rules (Q.size system.now) (Q.quorum system.now) (Q.fail_prone system.now) S.above V.same) S.owner S.lowest S.successor V.initial_value) client (client_of self.now known) (phase_of phase known) kind }
+        ensures { (known : _) → outcome_of (Q.size system.now) client result known ≡ begins (kinds_of Q.QuorumSystem S.Timestamp V.Value system.now) client (client_of self.now known) (phase_of phase known) kind }
     {
         let number = self.number + 1;
         Outcome {
             client: Client {
                 number,
-                last: self.last,
                 phase,
+                ..*self
             },
             answer: Answer::Begun { client, number },
-            dispatch: Dispatch::ToAll {
-                kind,
-                number,
-                timestamp: S::initial(),
-                value: V::initial(),
-            },
+            broadcast: Some(Broadcast::plain(kind, number)),
         }
     }
 
@@ -97,7 +101,7 @@ impl<S: Timestamp, V: Value> Client<S, V> {
         kind: Kind,
     ) -> Outcome<S, V>
         requires { self.now.number < 4294967295 }
-        ensures begun { outcome_of (Q.size system.now) client result (view S.above (blank S.lowest V.initial_value) (Q.size system.now) part.new) ≡ begins (setting 0 0 0 (rules (Q.size system.now) (Q.quorum system.now) (Q.fail_prone system.now) S.above V.same) S.owner S.lowest S.successor V.initial_value) client (client_of self.now (view S.above (blank S.lowest V.initial_value) (Q.size system.now) part.old)) (reading (unread S.lowest V.initial_value)) kind }
+        ensures begun { outcome_of (Q.size system.now) client result (view S.above (blank S.lowest V.initial_value) (Q.size system.now) part.new) ≡ begins (kinds_of Q.QuorumSystem S.Timestamp V.Value system.now) client (client_of self.now (view S.above (blank S.lowest V.initial_value) (Q.size system.now) part.old)) (reading (unread S.lowest V.initial_value)) kind }
         ensures memory { part.new ≡ replicate (length part.old) (blank S.lowest V.initial_value) }
     {
         forget(part);
@@ -111,12 +115,10 @@ impl<S: Timestamp, V: Value> Client<S, V> {
         client: u8,
         value: V,
         room: usize,
-    ) -> Result<(Answer<S, V>, Dispatch<S, V>), Refusal>
-        ensures { BegunWrite (setting 0 0 0 (rules (Q.size system.now) (Q.quorum system.now) (Q.fail_prone system.now) S.above V.same) S.owner S.lowest S.successor V.initial_value) (blank S.lowest V.initial_value) self.old client value room result self.new }
+    ) -> Result<(Answer<S, V>, Option<Broadcast<S, V>>), Refusal>
+        ensures { BegunWrite (kinds_of Q.QuorumSystem S.Timestamp V.Value system.now) (blank S.lowest V.initial_value) self.old client value room result self.new }
     {
-        if let Some(refusal) = self.refuses(system, room) {
-            return Err(refusal);
-        }
+        self.may_begin(system, room)?;
         let asking = Phase::Asking {
             value,
             told: ServerSet::empty(),
@@ -124,7 +126,7 @@ impl<S: Timestamp, V: Value> Client<S, V> {
         };
         let outcome = self.begun(system, client, asking, Kind::Query);
         *self = outcome.client;
-        Ok((outcome.answer, outcome.dispatch))
+        Ok((outcome.answer, outcome.broadcast))
     }
 
     // Begins a read, with nothing known.
@@ -134,14 +136,12 @@ impl<S: Timestamp, V: Value> Client<S, V> {
         part: &mut [Report<S, V>],
         client: u8,
         room: usize,
-    ) -> Result<(Answer<S, V>, Dispatch<S, V>), Refusal>
-        ensures { BegunRead (setting 0 0 0 (rules (Q.size system.now) (Q.quorum system.now) (Q.fail_prone system.now) S.above V.same) S.owner S.lowest S.successor V.initial_value) (blank S.lowest V.initial_value) self.old part.old client room result self.new part.new }
+    ) -> Result<(Answer<S, V>, Option<Broadcast<S, V>>), Refusal>
+        ensures { BegunRead (kinds_of Q.QuorumSystem S.Timestamp V.Value system.now) (blank S.lowest V.initial_value) self.old part.old client room result self.new part.new }
     {
-        if let Some(refusal) = self.refuses(system, room) {
-            return Err(refusal);
-        }
+        self.may_begin(system, room)?;
         let outcome = self.begun_anew(system, part, client, Kind::Read);
         *self = outcome.client;
-        Ok((outcome.answer, outcome.dispatch))
+        Ok((outcome.answer, outcome.broadcast))
     }
 }

@@ -1,14 +1,13 @@
 // A client that reads: VALUE.
 ghost use Rattle.std.specs.Prelude.{◌≡◌, ℕ, ◌+◌, ◌*◌, ◌<◌, ◌≤◌, true, length};
-ghost use Rattle.reading.specs.Readings.{rules, heard, decide};
+ghost use Rattle.reading.specs.Readings.{rules_of, heard, decide};
 ghost use Rattle.reading.specs.Reports.{blank, view};
 ghost use Rattle.reading.specs.Hearing.{enough_memory};
-ghost use Rattle.protocol.specs.Settings.{setting};
 ghost use Rattle.protocol.specs.Clients.{reading, decided, on_value};
-ghost use Rattle.client.specs.Showing.{client_of, outcome_of};
+ghost use Rattle.client.specs.Showing.{kinds_of, client_of, outcome_of};
 ghost use Rattle.client.specs.Taking.{Tried, Within, Weighs};
 
-use crate::state::{Client, Dispatch, Outcome, Phase};
+use crate::state::{Broadcast, Client, Outcome, Phase};
 use calls::{Answer, Refusal};
 use network::message::{Kind, Message};
 use quorums::QuorumSystem;
@@ -25,14 +24,13 @@ impl<S: Timestamp, V: Value> Client<S, V> {
         client: u8,
         found: Option<(S, V)>,
     ) -> Outcome<S, V>
-        ensures { (known : _) → outcome_of (Q.size system.now) client result known ≡ decided (setting 0 0 0 (rules (Q.size system.now) (Q.quorum system.now) (Q.fail_prone system.now) S.above V.same) S.owner S.lowest S.successor V.initial_value) client (client_of self.now known) known found }
+        ensures { (known : _) → outcome_of (Q.size system.now) client result known ≡ decided (kinds_of Q.QuorumSystem S.Timestamp V.Value system.now) client (client_of self.now known) known found }
     {
         match found {
             Some((timestamp, value)) => Outcome {
                 client: Client {
-                    number: self.number,
-                    last: self.last,
                     phase: Phase::Idle,
+                    ..*self
                 },
                 answer: Answer::FinishedRead {
                     client,
@@ -40,12 +38,7 @@ impl<S: Timestamp, V: Value> Client<S, V> {
                     timestamp,
                     value,
                 },
-                dispatch: Dispatch::ToAll {
-                    kind: Kind::Stop,
-                    number: self.number,
-                    timestamp: S::initial(),
-                    value: V::initial(),
-                },
+                broadcast: Some(Broadcast::plain(Kind::Stop, self.number)),
             },
             None => self.taken_in(Phase::Reading),
         }
@@ -60,12 +53,10 @@ impl<S: Timestamp, V: Value> Client<S, V> {
         room: usize,
     ) -> Result<Outcome<S, V>, Refusal>
         requires { enough_memory (Q.size system.now) part.old message.server ≡ true }
-        ensures { Weighs (setting 0 0 0 (rules (Q.size system.now) (Q.quorum system.now) (Q.fail_prone system.now) S.above V.same) S.owner S.lowest S.successor V.initial_value) (blank S.lowest V.initial_value) part.old message (on_value (setting 0 0 0 (rules (Q.size system.now) (Q.quorum system.now) (Q.fail_prone system.now) S.above V.same) S.owner S.lowest S.successor V.initial_value) (client_of self.now (view S.above (blank S.lowest V.initial_value) (Q.size system.now) part.old)) message (reading (view S.above (blank S.lowest V.initial_value) (Q.size system.now) part.old))) room result part.new }
+        ensures { Weighs (kinds_of Q.QuorumSystem S.Timestamp V.Value system.now) (blank S.lowest V.initial_value) part.old message (on_value (kinds_of Q.QuorumSystem S.Timestamp V.Value system.now) (client_of self.now (view S.above (blank S.lowest V.initial_value) (Q.size system.now) part.old)) message (reading (view S.above (blank S.lowest V.initial_value) (Q.size system.now) part.old))) room result part.new }
     {
-        match hear_within(system, part, message, room) {
-            Ok(found) => Ok(self.decided(system, message.client, found)),
-            Err(refusal) => Err(refusal),
-        }
+        let found = hear_within(system, part, message, room)?;
+        Ok(self.decided(system, message.client, found))
     }
 }
 
@@ -77,7 +68,7 @@ fn try_value<Q: QuorumSystem, S: Timestamp, V: Value>(
     message: Message<S, V>,
     i: usize,
 ) -> Option<(S, V)>
-    ensures { Tried (rules (Q.size system.now) (Q.quorum system.now) (Q.fail_prone system.now) S.above V.same) (blank S.lowest V.initial_value) i part.old message.server message.timestamp message.value result part.new }
+    ensures { Tried (rules_of Q.QuorumSystem S.Timestamp V.Value system.now) (blank S.lowest V.initial_value) i part.old message.server message.timestamp message.value result part.new }
 {
     if i >= part.len() {
         return hear(
@@ -104,7 +95,7 @@ fn hear_within<Q: QuorumSystem, S: Timestamp, V: Value>(
     room: usize,
 ) -> Result<Option<(S, V)>, Refusal>
     requires { enough_memory (Q.size system.now) part.old message.server ≡ true }
-    ensures { Within (rules (Q.size system.now) (Q.quorum system.now) (Q.fail_prone system.now) S.above V.same) (blank S.lowest V.initial_value) room part.old message.server message.timestamp message.value result part.new }
+    ensures { Within (rules_of Q.QuorumSystem S.Timestamp V.Value system.now) (blank S.lowest V.initial_value) room part.old message.server message.timestamp message.value result part.new }
 {
     if room >= system.servers() as usize {
         return Ok(hear(
@@ -115,8 +106,8 @@ fn hear_within<Q: QuorumSystem, S: Timestamp, V: Value>(
             message.value,
         ));
     }
-    match try_value(system, part, message, 0) {
-        Some(_) => Err(Refusal::NetworkFull),
-        None => Ok(None),
+    if try_value(system, part, message, 0).is_some() {
+        return Err(Refusal::NetworkFull);
     }
+    Ok(None)
 }

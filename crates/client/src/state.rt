@@ -28,22 +28,19 @@ pub struct Client<S, V> {
     pub phase: Phase<S, V>,
 }
 
-// What goes to the servers: nothing, or one message to each, in server order.
-#[derive(Clone, Copy)]
-pub enum Dispatch<S, V> {
-    Nothing,
-    ToAll {
-        kind: Kind,
-        number: u32,
-        timestamp: S,
-        value: V,
-    },
+// One message to each server, in server order.
+#[derive(Clone, Copy, PartialEq, Eq, Debug)]
+pub struct Broadcast<S, V> {
+    pub kind: Kind,
+    pub number: u32,
+    pub timestamp: S,
+    pub value: V,
 }
 
-// What the client is afterwards, what is answered, and what goes to the servers.
+// What the client is afterwards, what is answered, and what goes to the servers, if anything does.
 #[derive(Clone, Copy)]
 pub struct Outcome<S, V> {
     pub client: Client<S, V>,
     pub answer: Answer<S, V>,
-    pub dispatch: Dispatch<S, V>,
+    pub broadcast: Option<Broadcast<S, V>>,
 }

@@ -1,14 +1,12 @@
 // What a client makes of a message.
 ghost use Rattle.std.specs.Prelude.{◌≡◌, ◌+◌, ◌*◌, true, false, ◌&&◌, nat_le, nat_lt};
-ghost use Rattle.reading.specs.Readings.{rules};
 ghost use Rattle.reading.specs.Reports.{blank, view};
 ghost use Rattle.reading.specs.Hearing.{enough_memory};
-ghost use Rattle.protocol.specs.Settings.{setting};
 ghost use Rattle.protocol.specs.Clients.{awaited};
-ghost use Rattle.client.specs.Showing.{client_of};
+ghost use Rattle.client.specs.Showing.{kinds_of, client_of};
 ghost use Rattle.client.specs.Taking.{sending, Fitting, is_reading, is_value, hears_value, expected, Weighs, TakenIn};
 
-use crate::state::{Client, Dispatch, Outcome, Phase};
+use crate::state::{Broadcast, Client, Outcome, Phase};
 use calls::{Answer, Refusal};
 use network::message::{Kind, Message};
 use quorums::QuorumSystem;
@@ -16,24 +14,12 @@ use reading::reports::Report;
 use timestamps::Timestamp;
 use values::Value;
 
-impl<S: Timestamp, V: Value> Dispatch<S, V> {
-    // How many messages go to n servers.
-    pub(crate) fn count(&self, n: u8) -> usize
-        ensures { result ≡ sending n self.now }
-    {
-        match self {
-            Dispatch::Nothing => 0,
-            Dispatch::ToAll { .. } => n as usize,
-        }
-    }
-}
-
 impl<S: Timestamp, V: Value> Outcome<S, V> {
     // The outcome, unless it sends more messages than there is room.
     fn within(self, n: u8, room: usize) -> Result<Outcome<S, V>, Refusal>
         ensures { Fitting n room self result }
     {
-        if self.dispatch.count(n) > room {
+        if self.broadcast.is_some() && n as usize > room {
             return Err(Refusal::NetworkFull);
         }
         Ok(self)
@@ -58,7 +44,7 @@ impl<S: Timestamp, V: Value> Client<S, V> {
         room: usize,
     ) -> Result<Outcome<S, V>, Refusal>
         requires { enough_memory (Q.size system.now) part.old message.server ≡ true }
-        ensures weighed { Weighs (setting 0 0 0 (rules (Q.size system.now) (Q.quorum system.now) (Q.fail_prone system.now) S.above V.same) S.owner S.lowest S.successor V.initial_value) (blank S.lowest V.initial_value) part.old message (awaited (setting 0 0 0 (rules (Q.size system.now) (Q.quorum system.now) (Q.fail_prone system.now) S.above V.same) S.owner S.lowest S.successor V.initial_value) kind (client_of self.now (view S.above (blank S.lowest V.initial_value) (Q.size system.now) part.old)) message) room result part.new }
+        ensures weighed { Weighs (kinds_of Q.QuorumSystem S.Timestamp V.Value system.now) (blank S.lowest V.initial_value) part.old message (awaited (kinds_of Q.QuorumSystem S.Timestamp V.Value system.now) kind (client_of self.now (view S.above (blank S.lowest V.initial_value) (Q.size system.now) part.old)) message) room result part.new }
         ensures unheard { (is_reading self.now.phase && is_value kind) ≡ false → part.new ≡ part.old }
     {
         match (&self.phase, kind) {
@@ -99,22 +85,18 @@ impl<S: Timestamp, V: Value> Client<S, V> {
         message: Message<S, V>,
         kind: Kind,
         room: usize,
-    ) -> Result<(Answer<S, V>, Dispatch<S, V>), Refusal>
-        ensures taken { TakenIn (setting 0 0 0 (rules (Q.size system.now) (Q.quorum system.now) (Q.fail_prone system.now) S.above V.same) S.owner S.lowest S.successor V.initial_value) (blank S.lowest V.initial_value) self.old part.old message kind room result self.new part.new }
+    ) -> Result<(Answer<S, V>, Option<Broadcast<S, V>>), Refusal>
+        ensures taken { TakenIn (kinds_of Q.QuorumSystem S.Timestamp V.Value system.now) (blank S.lowest V.initial_value) self.old part.old message kind room result self.new part.new }
         ensures unheard { hears_value self.old message kind ≡ false → part.new ≡ part.old }
     {
         if !is_enough(part.len(), system.servers(), message.server) {
             return Err(Refusal::Memory);
         }
         if message.number != self.number {
-            return Ok((Answer::Taken, Dispatch::Nothing));
+            return Ok((Answer::Taken, None));
         }
-        match self.weigh(system, part, message, kind, room) {
-            Ok(outcome) => {
-                *self = outcome.client;
-                Ok((outcome.answer, outcome.dispatch))
-            }
-            Err(refusal) => Err(refusal),
-        }
+        let outcome = self.weigh(system, part, message, kind, room)?;
+        *self = outcome.client;
+        Ok((outcome.answer, outcome.broadcast))
     }
 }

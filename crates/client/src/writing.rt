@@ -1,28 +1,18 @@
 // A client that writes: TS and ACK.
-ghost use Rattle.std.specs.Prelude.{◌≡◌, ℕ, ◌<◌, true};
+ghost use Rattle.std.specs.Prelude.{◌≡◌, ℕ, ◌<◌, true, None};
 ghost use Rattle.quorums.specs.Sets.{members};
-ghost use Rattle.timestamps.specs.Laws.{higher};
-ghost use Rattle.reading.specs.Readings.{rules, level, updated};
-ghost use Rattle.protocol.specs.Settings.{setting};
+ghost use Rattle.reading.specs.Readings.{updated};
 ghost use Rattle.protocol.specs.Clients.{asking, storing, unchanged, chosen, asked, on_ts, stored, on_ack};
 ghost use Rattle.calls.specs.declared.Answer.TheVariants.{Taken};
-ghost use Rattle.client.specs.declared.state.Dispatch.TheVariants.{Nothing};
-ghost use Rattle.client.specs.Showing.{phase_of, client_of, outcome_of};
+ghost use Rattle.client.specs.Showing.{kinds_of, phase_of, client_of, outcome_of};
 
-use crate::state::{Client, Dispatch, Outcome, Phase};
+use crate::state::{Broadcast, Client, Outcome, Phase};
 use calls::Answer;
 use network::message::{Kind, Message};
 use quorums::QuorumSystem;
 use quorums::sets::ServerSet;
-use timestamps::Timestamp;
+use timestamps::{Timestamp, higher_of, is_level};
 use values::Value;
-
-// The higher of two timestamps; of equals, the first.
-fn higher_of<S: Timestamp>(a: S, b: S) -> S
-    ensures { result ≡ higher S.above a b }
-{
-    if b.is_above(a) { b } else { a }
-}
 
 // The set with a server in it too.
 fn counted(set: ServerSet, server: u8) -> ServerSet
@@ -30,13 +20,6 @@ fn counted(set: ServerSet, server: u8) -> ServerSet
     ensures { members result ≡ updated (members set) server true }
 {
     set.with(server)
-}
-
-// Whether two timestamps are equal: neither is above the other.
-fn is_level<S: Timestamp>(a: S, b: S) -> bool
-    ensures { result ≡ level S.above a b }
-{
-    !a.is_above(b) && !b.is_above(a)
 }
 
 impl<S: Timestamp, V: Value> Client<S, V> {
@@ -49,16 +32,12 @@ impl<S: Timestamp, V: Value> Client<S, V> {
 
     // The message is taken, and the client is in another phase of its operation.
     pub(crate) fn taken_in(&self, phase: Phase<S, V>) -> Outcome<S, V>
-        ensures { result ≡ record { client = record { number = self.now.number; last = self.now.last; phase = phase }; answer = Taken; dispatch = Nothing } }
+        ensures { result ≡ record { client = record { number = self.now.number; last = self.now.last; phase = phase }; answer = Taken; broadcast = None } }
     {
         Outcome {
-            client: Client {
-                number: self.number,
-                last: self.last,
-                phase,
-            },
+            client: Client { phase, ..*self },
             answer: Answer::Taken,
-            dispatch: Dispatch::Nothing,
+            broadcast: None,
         }
     }
 
@@ -70,38 +49,37 @@ impl<S: Timestamp, V: Value> Client<S, V> {
         value: V,
         next: Option<S>,
     ) -> Outcome<S, V>
-        ensures { (known : _) → outcome_of (Q.size system.now) client result known ≡ chosen (setting 0 0 0 (rules (Q.size system.now) (Q.quorum system.now) (Q.fail_prone system.now) S.above V.same) S.owner S.lowest S.successor V.initial_value) client (client_of self.now known) value next }
+        ensures { (known : _) → outcome_of (Q.size system.now) client result known ≡ chosen (kinds_of Q.QuorumSystem S.Timestamp V.Value system.now) client (client_of self.now known) value next }
     {
         match next {
             Some(timestamp) => Outcome {
                 client: Client {
-                    number: self.number,
                     last: timestamp,
                     phase: Phase::Storing {
                         timestamp,
                         value,
                         acknowledged: ServerSet::empty(),
                     },
+                    ..*self
                 },
                 answer: Answer::Taken,
-                dispatch: Dispatch::ToAll {
+                broadcast: Some(Broadcast {
                     kind: Kind::Store,
                     number: self.number,
                     timestamp,
                     value,
-                },
+                }),
             },
             None => Outcome {
                 client: Client {
-                    number: self.number,
-                    last: self.last,
                     phase: Phase::Idle,
+                    ..*self
                 },
                 answer: Answer::Spent {
                     client,
                     number: self.number,
                 },
-                dispatch: Dispatch::Nothing,
+                broadcast: None,
             },
         }
     }
@@ -115,7 +93,7 @@ impl<S: Timestamp, V: Value> Client<S, V> {
         told: ServerSet,
         highest: S,
     ) -> Outcome<S, V>
-        ensures { (known : _) → outcome_of (Q.size system.now) client result known ≡ asked (setting 0 0 0 (rules (Q.size system.now) (Q.quorum system.now) (Q.fail_prone system.now) S.above V.same) S.owner S.lowest S.successor V.initial_value) client (client_of self.now known) value (members told) highest }
+        ensures { (known : _) → outcome_of (Q.size system.now) client result known ≡ asked (kinds_of Q.QuorumSystem S.Timestamp V.Value system.now) client (client_of self.now known) value (members told) highest }
     {
         if !system.is_quorum(told) {
             return self.taken_in(Phase::Asking {
@@ -136,7 +114,7 @@ impl<S: Timestamp, V: Value> Client<S, V> {
         value: V,
         acknowledged: ServerSet,
     ) -> Outcome<S, V>
-        ensures { (known : _) → outcome_of (Q.size system.now) client result known ≡ stored (setting 0 0 0 (rules (Q.size system.now) (Q.quorum system.now) (Q.fail_prone system.now) S.above V.same) S.owner S.lowest S.successor V.initial_value) client (client_of self.now known) timestamp value (members acknowledged) }
+        ensures { (known : _) → outcome_of (Q.size system.now) client result known ≡ stored (kinds_of Q.QuorumSystem S.Timestamp V.Value system.now) client (client_of self.now known) timestamp value (members acknowledged) }
     {
         if !system.is_quorum(acknowledged) {
             return self.taken_in(Phase::Storing {
@@ -147,16 +125,15 @@ impl<S: Timestamp, V: Value> Client<S, V> {
         }
         Outcome {
             client: Client {
-                number: self.number,
-                last: self.last,
                 phase: Phase::Idle,
+                ..*self
             },
             answer: Answer::FinishedWrite {
                 client,
                 number: self.number,
                 timestamp,
             },
-            dispatch: Dispatch::Nothing,
+            broadcast: None,
         }
     }
 
@@ -170,7 +147,7 @@ impl<S: Timestamp, V: Value> Client<S, V> {
         highest: S,
     ) -> Outcome<S, V>
         requires { message.server < 16 }
-        ensures { (known : _) → outcome_of (Q.size system.now) message.client result known ≡ on_ts (setting 0 0 0 (rules (Q.size system.now) (Q.quorum system.now) (Q.fail_prone system.now) S.above V.same) S.owner S.lowest S.successor V.initial_value) (client_of self.now known) message (asking value (members told) highest) }
+        ensures { (known : _) → outcome_of (Q.size system.now) message.client result known ≡ on_ts (kinds_of Q.QuorumSystem S.Timestamp V.Value system.now) (client_of self.now known) message (asking value (members told) highest) }
     {
         if told.contains(message.server) {
             return self.unchanged();
@@ -194,7 +171,7 @@ impl<S: Timestamp, V: Value> Client<S, V> {
         acknowledged: ServerSet,
     ) -> Outcome<S, V>
         requires { message.server < 16 }
-        ensures { (known : _) → outcome_of (Q.size system.now) message.client result known ≡ on_ack (setting 0 0 0 (rules (Q.size system.now) (Q.quorum system.now) (Q.fail_prone system.now) S.above V.same) S.owner S.lowest S.successor V.initial_value) (client_of self.now known) message (storing timestamp value (members acknowledged)) }
+        ensures { (known : _) → outcome_of (Q.size system.now) message.client result known ≡ on_ack (kinds_of Q.QuorumSystem S.Timestamp V.Value system.now) (client_of self.now known) message (storing timestamp value (members acknowledged)) }
     {
         if !is_level(message.timestamp, timestamp) {
             return self.unchanged();

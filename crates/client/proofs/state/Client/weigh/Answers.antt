@@ -1,18 +1,16 @@
 use Rattle.std.proofs.Common.{◌≡◌, sym, refl, ap, ◌∙◌, rules as general_rules}
 use Rattle.network.specs.declared.message.Kind.TheVariants.{Ts, Ack, Value}
 use Rattle.quorums.specs.Sets.{members}
-use Rattle.reading.specs.Readings.{rules}
 use Rattle.reading.specs.Reports.{blank, view}
-use Rattle.protocol.specs.Settings.{setting}
 use Rattle.protocol.specs.Clients.{idle, asking, storing, reading, on_ts, on_ack, awaited}
-use Rattle.client.specs.Showing.{phase_of, client_of}
+use Rattle.client.specs.Showing.{kinds_of, phase_of, client_of}
 use Rattle.client.proofs.Weighing.{weigh_fitting, weigh_unchanged, idle_drops, asking_drops, storing_drops, reading_drops}
 use Rattle.client.proofs.state.Client.weigh.Goals as goal
 
 pub returns-in-Asking-Ts : goal.returns-in-Asking-Ts
 returns-in-Asking-Ts g c =
     let q = c.args.system.now in
-    let K = setting 0 0 0 (rules (g.Q.QuorumSystem.size q) (g.Q.QuorumSystem.quorum q) (g.Q.QuorumSystem.fail_prone q) g.S.Timestamp.above g.V.Value.same) g.S.Timestamp.owner g.S.Timestamp.lowest g.S.Timestamp.successor g.V.Value.initial_value in
+    let K = kinds_of g.Q.QuorumSystem g.S.Timestamp g.V.Value q in
     let d = blank g.S.Timestamp.lowest g.V.Value.initial_value in
     let p = c.args.part.now in
     let m = c.args.message in
@@ -25,7 +23,7 @@ returns-in-Asking-Ts g c =
 pub returns-in-Asking-default : goal.returns-in-Asking-default
 returns-in-Asking-default g c =
     let q = c.args.system.now in
-    let K = setting 0 0 0 (rules (g.Q.QuorumSystem.size q) (g.Q.QuorumSystem.quorum q) (g.Q.QuorumSystem.fail_prone q) g.S.Timestamp.above g.V.Value.same) g.S.Timestamp.owner g.S.Timestamp.lowest g.S.Timestamp.successor g.V.Value.initial_value in
+    let K = kinds_of g.Q.QuorumSystem g.S.Timestamp g.V.Value q in
     let d = blank g.S.Timestamp.lowest g.V.Value.initial_value in
     let p = c.args.part.now in
     let m = c.args.message in
@@ -38,7 +36,7 @@ returns-in-Asking-default g c =
 pub returns-in-Storing-Ack : goal.returns-in-Storing-Ack
 returns-in-Storing-Ack g c =
     let q = c.args.system.now in
-    let K = setting 0 0 0 (rules (g.Q.QuorumSystem.size q) (g.Q.QuorumSystem.quorum q) (g.Q.QuorumSystem.fail_prone q) g.S.Timestamp.above g.V.Value.same) g.S.Timestamp.owner g.S.Timestamp.lowest g.S.Timestamp.successor g.V.Value.initial_value in
+    let K = kinds_of g.Q.QuorumSystem g.S.Timestamp g.V.Value q in
     let d = blank g.S.Timestamp.lowest g.V.Value.initial_value in
     let p = c.args.part.now in
     let m = c.args.message in
@@ -51,7 +49,7 @@ returns-in-Storing-Ack g c =
 pub returns-in-Storing-default : goal.returns-in-Storing-default
 returns-in-Storing-default g c =
     let q = c.args.system.now in
-    let K = setting 0 0 0 (rules (g.Q.QuorumSystem.size q) (g.Q.QuorumSystem.quorum q) (g.Q.QuorumSystem.fail_prone q) g.S.Timestamp.above g.V.Value.same) g.S.Timestamp.owner g.S.Timestamp.lowest g.S.Timestamp.successor g.V.Value.initial_value in
+    let K = kinds_of g.Q.QuorumSystem g.S.Timestamp g.V.Value q in
     let d = blank g.S.Timestamp.lowest g.V.Value.initial_value in
     let p = c.args.part.now in
     let m = c.args.message in
@@ -64,7 +62,7 @@ returns-in-Storing-default g c =
 pub returns-in-Reading-default : goal.returns-in-Reading-default
 returns-in-Reading-default g c =
     let q = c.args.system.now in
-    let K = setting 0 0 0 (rules (g.Q.QuorumSystem.size q) (g.Q.QuorumSystem.quorum q) (g.Q.QuorumSystem.fail_prone q) g.S.Timestamp.above g.V.Value.same) g.S.Timestamp.owner g.S.Timestamp.lowest g.S.Timestamp.successor g.V.Value.initial_value in
+    let K = kinds_of g.Q.QuorumSystem g.S.Timestamp g.V.Value q in
     let d = blank g.S.Timestamp.lowest g.V.Value.initial_value in
     let p = c.args.part.now in
     let m = c.args.message in
@@ -77,7 +75,7 @@ returns-in-Reading-default g c =
 pub returns-in-Idle-default : goal.returns-in-Idle-default
 returns-in-Idle-default g c =
     let q = c.args.system.now in
-    let K = setting 0 0 0 (rules (g.Q.QuorumSystem.size q) (g.Q.QuorumSystem.quorum q) (g.Q.QuorumSystem.fail_prone q) g.S.Timestamp.above g.V.Value.same) g.S.Timestamp.owner g.S.Timestamp.lowest g.S.Timestamp.successor g.V.Value.initial_value in
+    let K = kinds_of g.Q.QuorumSystem g.S.Timestamp g.V.Value q in
     let d = blank g.S.Timestamp.lowest g.V.Value.initial_value in
     let p = c.args.part.now in
     let m = c.args.message in

@@ -4,13 +4,14 @@ use Rattle.network.specs.declared.message.Message.{Message}
 use Rattle.network.proofs.Sending.{posted_sent, sent_then, room_after}
 use Rattle.protocol.specs.Clients.{to_all, from_client}
 use Rattle.client.proofs.Weighing.{length-to_all}
-use Rattle.client.proofs.send.send_all.Goals as goal
+use Rattle.client.proofs.state.Broadcast.send_all.Goals as goal
 
 pub loop-server-preserved : goal.loop-server-preserved
 loop-server-preserved g c =
     let M = Message g.row.S.Denot g.row.V.Denot in
     let i = c.loop-server.server in
-    let f : ℕ → M = λ b. from_client c.args.client b c.args.kind c.args.number c.args.timestamp c.args.value in
+    let x = c.args.self in
+    let f : ℕ → M = λ b. from_client c.args.client b x.kind x.number x.timestamp x.value in
     let before = c.args.network.now in
     let memory = c.args.memory.now in
     let few : Room before (length memory) (length (to_all i f) + 1) =
