@@ -1,5 +1,5 @@
 -- Entries in memory by row and place.
-use Rattle.std.proofs.Common.{◌≡◌, ℕ, ◌+◌, ◌*◌, ◌/◌, ◌%◌, ◌<◌, ◌≤◌, ◌&&◌, eqb, List, length, get_or, set, sym, ap, ◌∙◌, inl, inr, mul_comm, arith}
+use Rattle.std.proofs.Common.{◌≡◌, ℕ, ◌+◌, ◌*◌, ◌/◌, ◌%◌, ◌<◌, ◌≤◌, ◌&&◌, eqb, List, None, Option, length, get_or, set, sym, ap, ◌∙◌, inl, inr, mul_comm, arith}
 use Rattle.std.proofs.lemmas.Nat.{mul-add-lt, div-mul-add, mod-mul-add}
 use Rattle.std.proofs.lemmas.List.{get_or-set_same, get_or-set_other}
 use Rattle.std.proofs.lemmas.Bool.{cases_Bool, and_parts, and_cases, eqb-true, eqb-false, cond-true, cond-false}
@@ -22,21 +22,21 @@ apart_place n b k c j hk hj e =
     sym (mod-mul-add b (n + 1) k (omega arith)) ∙ ap (λ x. x % (n + 1)) e ∙ mod-mul-add c (n + 1) j (omega arith)
 
 -- a write at an index is a write of that entry
-pub cell_set : {R : Type 0} (d : R) (n : ℕ) (p : List R) (b k : ℕ) (x : R) → Room n p → b < n → k ≤ n
-    → (c j : ℕ) → j ≤ n → cell d n (set p (b * (n + 1) + k) x) c j ≡ put_at (cell d n p) b k x c j
-cell_set d n p b k x room hb hk c j hj =
+pub cell_set : {R : Type 0} (n : ℕ) (p : List (Option R)) (b k : ℕ) (x : Option R) → Room n p → b < n → k ≤ n
+    → (c j : ℕ) → j ≤ n → cell n (set p (b * (n + 1) + k) x) c j ≡ put_at (cell n p) b k x c j
+cell_set n p b k x room hb hk c j hj =
     elim (cases_Bool (eqb b c && eqb k j)) [
       | inl e ↦
           let parts = and_parts (eqb b c) (eqb k j) e in
           let eb : b ≡ c = eqb-true b c parts.0 in
           let ek : k ≡ j = eqb-true k j parts.1 in
-          let same : get_or (set p (b * (n + 1) + k) x) (b * (n + 1) + k) d ≡ x = get_or-set_same p (b * (n + 1) + k) x d (inside n p b k room hb hk) in
-          ap (λ i. get_or (set p (b * (n + 1) + k) x) i d) (sym (ap (λ i. i * (n + 1) + k) eb ∙ ap (λ i. c * (n + 1) + i) ek)) ∙ same ∙ sym (cond-true (eqb b c && eqb k j) x (cell d n p c j) e)
+          let same : get_or (set p (b * (n + 1) + k) x) (b * (n + 1) + k) None ≡ x = get_or-set_same p (b * (n + 1) + k) x None (inside n p b k room hb hk) in
+          ap (λ i. get_or (set p (b * (n + 1) + k) x) i None) (sym (ap (λ i. i * (n + 1) + k) eb ∙ ap (λ i. c * (n + 1) + i) ek)) ∙ same ∙ sym (cond-true (eqb b c && eqb k j) x (cell n p c j) e)
       | inr e ↦
-          get_or-set_other p (b * (n + 1) + k) (c * (n + 1) + j) x d
+          get_or-set_other p (b * (n + 1) + k) (c * (n + 1) + j) x None
           (λ q. elim (and_cases (eqb b c) (eqb k j) e) [
             | inl f ↦ eqb-false b c f (apart_row n b k c j hk hj (sym q))
             | inr f ↦ eqb-false k j f (apart_place n b k c j hk hj (sym q))
           ])
-          ∙ sym (cond-false (eqb b c && eqb k j) x (cell d n p c j) e)
+          ∙ sym (cond-false (eqb b c && eqb k j) x (cell n p c j) e)
     ]

@@ -1,11 +1,12 @@
 -- The slots after a server has entered.
-use Rattle.std.proofs.Common.{◌≡◌, ℕ, zero, suc, ◌+◌, ◌*◌, ◌/◌, ◌%◌, ◌<◌, ◌≤◌, Bool, true, false, cond, ◌&&◌, ◌||◌, eqb, ltb, leb, [], ◌∷◌, ◌++◌, Some, None, Option, sym, refl, ap, ◌∙◌, ap₂, inl, inr, mod-lt, arith}
+use Rattle.std.proofs.Common.{◌≡◌, ℕ, zero, suc, ◌+◌, ◌*◌, ◌/◌, ◌%◌, ◌<◌, ◌≤◌, Bool, true, false, cond, ◌&&◌, ◌||◌, eqb, ltb, leb, List, [], ◌∷◌, ◌++◌, Some, None, Option, sym, refl, ap, ◌∙◌, ap₂, inl, inr, mod-lt, arith}
 use Rattle.std.proofs.lemmas.Nat.{mul-add-lt, div-mul-add, mod-mul-add, div_below, div-add-mod'}
 use Rattle.std.proofs.lemmas.Bool.{both_ways, cases_lt, cases_order, le-leb, lt-leb, eq-eqb, eqb-true, cases_Bool, and_parts, cond-true, cond-false, lt-ltb, le-ltb, ltb-true, ltb-false, and_left, and_right, and_from, or_right}
-use Rattle.reading.specs.declared.reports.Report.{Report}
+use Rattle.std.specs.Prelude.{is_some}
+use Rattle.std.specs.Option.{option_map, unwrap_or}
 use Rattle.timestamps.specs.Laws.{TimestampLaws}
 use Rattle.reading.specs.Readings.{Reading, Rules, level, among, leads, leaders, rewatched, unread}
-use Rattle.reading.specs.Reports.{Grid, slots, content, watches, kept, shown, put_at, blank, reported, carried, fresh, anew, renew_from}
+use Rattle.reading.specs.Reports.{Report, Grid, timestamp_of, content, listed, slots, equals, watches, kept, shown, put_at, has, fresh, anew, renew_from}
 use Rattle.reading.proofs.Views.{same_reading, gone}
 use Rattle.reading.proofs.Notes.{level_equal, level_same, among_push}
 
@@ -79,9 +80,14 @@ renew_all f g n x k = ap (λ t. cond t (f x k) (g x k)) (ap (λ t. ltb k n && t)
 
 -- ---- all entries
 
-content_carried : {S V : Type 0} (lowest : S) (initial : V) (s : S) (o : Option V) → content (carried (blank lowest initial) s o) ≡ o
-content_carried lowest initial s None = refl
-content_carried lowest initial s (Some v) = refl
+content_carried : {S V : Type 0} (s : S) (o : Option V) → content (option_map (λ v. (s, v)) o) ≡ o
+content_carried s None = refl
+content_carried s (Some v) = refl
+
+-- one leader more
+lead_push : {S : Type 0} (above : S → S → Bool) (s t : S) (xs : List S) (c : Bool) → among above s (xs ++ cond c (t ∷ []) []) ≡ (among above s xs || (c && level above s t))
+lead_push above s t xs true = among_push above s xs (Some t)
+lead_push above s t xs false = among_push above s xs None
 
 or_false : (x : Bool) → (x || false) ≡ x
 or_false true = refl
@@ -91,15 +97,12 @@ cond_same : {A : Type 0} (b : Bool) (x : A) → cond b x x ≡ x
 cond_same true x = refl
 cond_same false x = refl
 
-module _ {S V : Type 0} (K : Rules S V) (lowest : S) (initial : V) {owner : S → ℕ} {successor : ℕ → S → S → Option S} (ordered : TimestampLaws K.above owner lowest successor) (g : Grid S V) where
-  abbrev d : Report S V
-  d = blank lowest initial
-
+module _ {S V : Type 0} (K : Rules S V) (d : S × V) {owner : S → ℕ} {successor : ℕ → S → S → Option S} (ordered : TimestampLaws K.above owner d.0 successor) (g : Grid S V) where
   abbrev r : Reading S V
   r = shown K.above d K.n g
 
   abbrev f : Grid S V
-  f = anew K.above d (leads K r) r
+  f = anew K.above (leads K r) r
 
   abbrev h : Grid S V
   h x k = cond (ltb k K.n) (f x k) (g x k)
@@ -107,18 +110,18 @@ module _ {S V : Type 0} (K : Rules S V) (lowest : S) (initial : V) {owner : S �
   slot : (x k : ℕ) → k < K.n → h x k ≡ f x k
   slot x k b = cond-true (ltb k K.n) (f x k) (g x k) (lt-ltb k K.n b)
 
-  late : (x : ℕ) → h x K.n ≡ g x K.n
-  late x = cond-false (ltb K.n K.n) (f x K.n) (g x K.n) (le-ltb K.n K.n (omega arith))
+  last : (x : ℕ) → h x K.n ≡ g x K.n
+  last x = cond-false (ltb K.n K.n) (f x K.n) (g x K.n) (le-ltb K.n K.n (omega arith))
 
-  own_latest : (j : ℕ) → leads K r j ≡ true → f j j ≡ reported (r.latest j) (r.latest_value j)
+  own_latest : (j : ℕ) → leads K r j ≡ true → f j j ≡ Some (r.latest j, r.latest_value j)
   own_latest j e =
       let p = and_parts (r.entered j) (K.fail_prone _) e in
-      cond-true (leads K r j) (fresh K.above d r j j) d e
-      ∙ ap (λ o. carried d (r.latest j) o) (cond-true (r.entered j && level K.above (r.latest j) (r.latest j)) (Some (r.latest_value j)) (r.evidence j (r.latest j))
+      cond-true (leads K r j) (fresh K.above r j j) None e
+      ∙ ap (λ o. option_map (λ v. (r.latest j, v)) o) (cond-true (r.entered j && level K.above (r.latest j) (r.latest j)) (Some (r.latest_value j)) (r.evidence j (r.latest j))
       (and_from (r.entered j) (level K.above (r.latest j) (r.latest j)) p.0 (level_same K.above ordered (r.latest j))))
 
-  not_content : (x j : ℕ) → leads K r j ≡ false → f x j ≡ d
-  not_content x j e = cond-false (leads K r j) (fresh K.above d r x j) d e
+  not_content : (x j : ℕ) → leads K r j ≡ false → f x j ≡ None
+  not_content x j e = cond-false (leads K r j) (fresh K.above r x j) None e
 
   slots_lead : (i : ℕ) → i ≤ K.n → slots h i ≡ leaders K r i
   slots_lead zero l = refl
@@ -126,55 +129,52 @@ module _ {S V : Type 0} (K : Rules S V) (lowest : S) (initial : V) {owner : S �
       let here : i < K.n = omega arith in
       ap₂ ◌++◌ (slots_lead i (omega arith))
       (elim (cases_Bool (leads K r i)) [
-        | inl e ↦ ap (λ y. cond y.present (y.timestamp ∷ []) []) (slot i i here ∙ own_latest i e) ∙ sym (cond-true (leads K r i) (r.latest i ∷ []) [] e)
-        | inr e ↦ ap (λ y. cond y.present (y.timestamp ∷ []) []) (slot i i here ∙ not_content i i e) ∙ sym (cond-false (leads K r i) (r.latest i ∷ []) [] e)
+        | inl e ↦ ap (λ y. listed (timestamp_of y)) (slot i i here ∙ own_latest i e) ∙ sym (cond-true (leads K r i) (r.latest i ∷ []) [] e)
+        | inr e ↦ ap (λ y. listed (timestamp_of y)) (slot i i here ∙ not_content i i e) ∙ sym (cond-false (leads K r i) (r.latest i ∷ []) [] e)
       ])
 
   watches_lead : (s : S) (i : ℕ) → i < K.n → watches K.above h s i ≡ (leads K r i && level K.above s (r.latest i))
   watches_lead s i here =
       elim (cases_Bool (leads K r i)) [
-        | inl e ↦ ap (λ y. y.present && level K.above s y.timestamp) (slot i i here ∙ own_latest i e) ∙ ap (λ t. t && level K.above s (r.latest i)) (sym e)
-        | inr e ↦ ap (λ y. y.present && level K.above s y.timestamp) (slot i i here ∙ not_content i i e) ∙ ap (λ t. t && level K.above s (r.latest i)) (sym e)
+        | inl e ↦ ap (λ y. equals K.above s (timestamp_of y)) (slot i i here ∙ own_latest i e) ∙ ap (λ t. t && level K.above s (r.latest i)) (sym e)
+        | inr e ↦ ap (λ y. equals K.above s (timestamp_of y)) (slot i i here ∙ not_content i i e) ∙ ap (λ t. t && level K.above s (r.latest i)) (sym e)
       ]
 
-  abbrev has : ℕ → S → Option V
-  has c s = cond (r.entered c && level K.above (r.latest c) s) (Some (r.latest_value c)) (r.evidence c s)
-
-  kept_lead : (c : ℕ) (s : S) (i : ℕ) → i ≤ K.n → kept K.above h c s i ≡ cond (among K.above s (leaders K r i)) (has c s) None
+  kept_lead : (c : ℕ) (s : S) (i : ℕ) → i ≤ K.n → kept K.above h c s i ≡ cond (among K.above s (leaders K r i)) (has K.above r c s) None
   kept_lead c s zero l = refl
   kept_lead c s (suc i) l =
       let here : i < K.n = omega arith in
       let t : Bool = leads K r i && level K.above s (r.latest i) in
-      let more : among K.above s (leaders K r (suc i)) ≡ (among K.above s (leaders K r i) || t) = among_push K.above s (r.latest i) (leaders K r i) (leads K r i) in
+      let more : among K.above s (leaders K r (suc i)) ≡ (among K.above s (leaders K r i) || t) = lead_push K.above s (r.latest i) (leaders K r i) (leads K r i) in
       ap (λ x. cond x (content (h c i)) (kept K.above h c s i)) (watches_lead s i here)
       ∙ elim (cases_Bool t) [
         | inl e ↦
             let p = and_parts (leads K r i) (level K.above s (r.latest i)) e in
             let st : s ≡ r.latest i = level_equal K.above ordered s (r.latest i) p.1 in
             cond-true t (content (h c i)) (kept K.above h c s i) e
-            ∙ ap content (slot c i here ∙ cond-true (leads K r i) (fresh K.above d r c i) d p.0)
-            ∙ content_carried lowest initial (r.latest i) (has c (r.latest i)) ∙ ap (λ x. has c x) (sym st)
-            ∙ sym (cond-true (among K.above s (leaders K r (suc i))) (has c s) None (more ∙ or_right (among K.above s (leaders K r i)) t e))
+            ∙ ap content (slot c i here ∙ cond-true (leads K r i) (fresh K.above r c i) None p.0)
+            ∙ content_carried (r.latest i) (has K.above r c (r.latest i)) ∙ ap (λ x. has K.above r c x) (sym st)
+            ∙ sym (cond-true (among K.above s (leaders K r (suc i))) (has K.above r c s) None (more ∙ or_right (among K.above s (leaders K r i)) t e))
         | inr e ↦
             cond-false t (content (h c i)) (kept K.above h c s i) e
             ∙ kept_lead c s i (omega arith)
-            ∙ ap (λ x. cond x (has c s) None) (sym (more ∙ ap (λ y. among K.above s (leaders K r i) || y) e ∙ or_false (among K.above s (leaders K r i))))
+            ∙ ap (λ x. cond x (has K.above r c s) None) (sym (more ∙ ap (λ y. among K.above s (leaders K r i) || y) e ∙ or_false (among K.above s (leaders K r i))))
       ]
 
   pub enter_all : shown K.above d K.n h ≡ rewatched K r
   enter_all =
       same_reading (shown K.above d K.n h) (rewatched K r)
-      (λ c. ap (λ x. cond (ltb c K.n) x.present false) (late c))
-      (λ c. ap (λ x. cond (ltb c K.n) x.timestamp lowest) (late c))
-      (λ c. ap (λ x. cond (ltb c K.n) x.value initial) (late c))
+      (λ c. ap (λ x. is_some (cond (ltb c K.n) x None)) (last c))
+      (λ c. ap (λ x. (unwrap_or (cond (ltb c K.n) x None) d).0) (last c))
+      (λ c. ap (λ x. (unwrap_or (cond (ltb c K.n) x None) d).1) (last c))
       (slots_lead K.n (omega arith))
       (λ c s. elim (cases_Bool (ltb c K.n)) [
         | inl e ↦ cond-true (ltb c K.n) (kept K.above h c s K.n) None e ∙ kept_lead c s K.n (omega arith)
         | inr e ↦
             let out : K.n ≤ c = ltb-false c K.n e in
-            let nothing : has c s ≡ None =
+            let nothing : has K.above r c s ≡ None =
             cond-false (r.entered c && level K.above (r.latest c) s) (Some (r.latest_value c)) (r.evidence c s)
-            (and_left (r.entered c) (level K.above (r.latest c) s) (gone c K.n (g c K.n).present false out))
+            (and_left (r.entered c) (level K.above (r.latest c) s) (ap is_some (gone c K.n (g c K.n) None out)))
             ∙ gone c K.n (kept K.above g c s K.n) None out in
             cond-false (ltb c K.n) (kept K.above h c s K.n) None e
             ∙ sym (ap (λ o. cond (among K.above s (leaders K r K.n)) o None) nothing ∙ cond_same (among K.above s (leaders K r K.n)) None)
@@ -183,16 +183,20 @@ module _ {S V : Type 0} (K : Rules S V) (lowest : S) (initial : V) {owner : S �
 -- ---- nothing is known
 
 module _ {S V : Type 0} (above : S → S → Bool) (lowest : S) (initial : V) where
-  slots_blank : (i : ℕ) → slots (λ (c k : ℕ). blank lowest initial) i ≡ []
+  abbrev blank : Grid S V
+  blank c k = None
+
+  slots_blank : (i : ℕ) → slots blank i ≡ []
   slots_blank zero = refl
   slots_blank (suc i) = ap (λ xs. xs ++ []) (slots_blank i)
 
-  kept_blank : (b : ℕ) (s : S) (i : ℕ) → kept above (λ (c k : ℕ). blank lowest initial) b s i ≡ None
+  kept_blank : (b : ℕ) (s : S) (i : ℕ) → kept above blank b s i ≡ None
   kept_blank b s zero = refl
   kept_blank b s (suc i) = kept_blank b s i
 
-  pub unread_all : (n : ℕ) → shown above (blank lowest initial) n (λ c k. blank lowest initial) ≡ unread lowest initial
+  pub unread_all : (n : ℕ) → shown above (lowest, initial) n blank ≡ unread lowest initial
   unread_all n =
-      same_reading (shown above (blank lowest initial) n (λ c k. blank lowest initial)) (unread lowest initial)
-      (λ b. cond_same (ltb b n) false) (λ b. cond_same (ltb b n) lowest) (λ b. cond_same (ltb b n) initial) (slots_blank n)
+      let none : (b : ℕ) → cond {A = Report S V} (ltb b n) None None ≡ None = λ b. cond_same (ltb b n) None in
+      same_reading (shown above (lowest, initial) n blank) (unread lowest initial)
+      (λ b. ap is_some (none b)) (λ b. ap (λ (r : Report S V). (unwrap_or r (lowest, initial)).0) (none b)) (λ b. ap (λ (r : Report S V). (unwrap_or r (lowest, initial)).1) (none b)) (slots_blank n)
       (λ b s. ap (λ o. cond (ltb b n) o None) (kept_blank b s n) ∙ cond_same (ltb b n) None)

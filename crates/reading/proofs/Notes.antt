@@ -1,11 +1,12 @@
 -- Evidence that is read and written slot by slot.
-use Rattle.std.proofs.Common.{◌≡◌, ℕ, zero, suc, ◌+◌, ◌<◌, ◌≤◌, Bool, true, false, cond, not, ◌&&◌, ◌||◌, eqb, ltb, List, [], ◌∷◌, ◌++◌, Some, None, Option, sym, refl, ap, ◌∙◌, ap₂, inl, inr, add-one, arith}
-use Rattle.std.proofs.lemmas.Bool.{cases_Bool, and_parts, eqb-true, eq-eqb, cond-true, cond-false, lt-ltb, le-ltb, not-true, and_left, and_right, and_from, both_ways, not_from_false}
+use Rattle.std.proofs.Common.{◌≡◌, ℕ, zero, suc, ◌+◌, ◌<◌, ◌≤◌, Bool, true, false, cond, not, ◌&&◌, ◌||◌, eqb, ltb, List, [], ◌∷◌, ◌++◌, Some, None, Option, sym, refl, ap, ◌∙◌, inl, inr, add-one, arith}
+use Rattle.std.proofs.lemmas.Bool.{cases_Bool, and_parts, eqb-true, eq-eqb, cond-true, cond-false, lt-ltb, le-ltb, not-true, and_left, and_right, and_from, both_ways, false≢true, not_from_false}
 use Rattle.std.proofs.lemmas.Bool.Decides.{nat_tests}
-use Rattle.reading.specs.declared.reports.Report.{Report}
+use Rattle.std.specs.Prelude.{is_some}
+use Rattle.std.specs.Option.{unwrap_or}
 use Rattle.timestamps.specs.Laws.{TimestampLaws}
 use Rattle.reading.specs.Readings.{level, among, noted}
-use Rattle.reading.specs.Reports.{Grid, slots, content, watches, kept, shown, put_at, reported, note_to}
+use Rattle.reading.specs.Reports.{Grid, timestamp_of, content, listed, slots, equals, watches, kept, shown, put_at, note_to}
 use Rattle.reading.proofs.Views.{same_reading, guard, slots_same, kept_same}
 
 -- ---- one slot more
@@ -27,14 +28,14 @@ upto_no b c j k h x y e = grind (arith, nat_tests)
 module _ {S V : Type 0} (above : S → S → Bool) (g : Grid S V) (b : ℕ) (s : S) (v : V) where
   -- the slot at hand is not yet written
   pub note_fresh : (j : ℕ) → note_to above j g b s v j j ≡ g j j
-  note_fresh j = cond-false (eqb b j && (ltb j j && watches above g s j)) (reported s v) (g j j) (grind (arith, nat_tests))
+  note_fresh j = cond-false (eqb b j && (ltb j j && watches above g s j)) (Some (s, v)) (g j j) (grind (arith, nat_tests))
 
   pub note_yes : (j : ℕ) (h : Grid S V) (c k : ℕ) → watches above g s j ≡ true → h c k ≡ note_to above j g b s v c k
-      → put_at h b j (reported s v) c k ≡ note_to above (j + 1) g b s v c k
-  note_yes j h c k e i = ap (λ x. cond (eqb b c && eqb j k) (reported s v) x) i ∙ upto_yes b c j k (watches above g s) (reported s v) (g c k) e
+      → put_at h b j (Some (s, v)) c k ≡ note_to above (j + 1) g b s v c k
+  note_yes j h c k e i = ap (λ x. cond (eqb b c && eqb j k) (Some (s, v)) x) i ∙ upto_yes b c j k (watches above g s) (Some (s, v)) (g c k) e
 
   pub note_no : (j c k : ℕ) → watches above g s j ≡ false → note_to above j g b s v c k ≡ note_to above (j + 1) g b s v c k
-  note_no j c k e = upto_no b c j k (watches above g s) (reported s v) (g c k) e
+  note_no j c k e = upto_no b c j k (watches above g s) (Some (s, v)) (g c k) e
 
 -- ---- all slots
 
@@ -48,13 +49,18 @@ module _ {S : Type 0} (above : S → S → Bool) {owner : S → ℕ} {low : S} {
   pub level_same : (a : S) → level above a a ≡ true
   level_same a = let n = not_from_false (above a a) (ordered.irreflexive a) in and_from (not (above a a)) (not (above a a)) n n
 
--- one timestamp more
-pub among_push : {S : Type 0} (above : S → S → Bool) (s t : S) (xs : List S) (c : Bool) → among above s (xs ++ cond c (t ∷ []) []) ≡ (among above s xs || (c && level above s t))
-among_push above s t [] true = grind (arith, nat_tests)
-among_push above s t [] false = refl
-among_push above s t (x ∷ xs) c = ap (λ y. level above s x || y) (among_push above s t xs c) ∙ grind (arith, nat_tests)
+  -- what is equal to a timestamp is that timestamp
+  pub equals_some : (s : S) (o : Option S) → equals above s o ≡ true → Some s ≡ o
+  equals_some s None e = absurd (false≢true e)
+  equals_some s (Some t) e = ap (λ x. Some x) (level_equal s t e)
 
-module _ {S V : Type 0} (above : S → S → Bool) {owner : S → ℕ} {low : S} {successor : ℕ → S → S → Option S} (ordered : TimestampLaws above owner low successor) (d : Report S V) (n : ℕ) (g : Grid S V) (b : ℕ) (s : S) (v : V) (hb : b < n) where
+-- one timestamp more
+pub among_push : {S : Type 0} (above : S → S → Bool) (s : S) (xs : List S) (o : Option S) → among above s (xs ++ listed o) ≡ (among above s xs || equals above s o)
+among_push above s [] None = refl
+among_push above s [] (Some t) = grind (arith, nat_tests)
+among_push above s (x ∷ xs) o = ap (λ y. level above s x || y) (among_push above s xs o) ∙ grind (arith, nat_tests)
+
+module _ {S V : Type 0} (above : S → S → Bool) {owner : S → ℕ} {low : S} {successor : ℕ → S → S → Option S} (ordered : TimestampLaws above owner low successor) (d : S × V) (n : ℕ) (g : Grid S V) (b : ℕ) (s : S) (v : V) (hb : b < n) where
   abbrev h : Grid S V
   h = note_to above n g b s v
 
@@ -62,38 +68,29 @@ module _ {S V : Type 0} (above : S → S → Bool) {owner : S → ℕ} {low : S}
   test c k = eqb b c && (ltb k n && watches above g s k)
 
   other : (c k : ℕ) → test c k ≡ false → h c k ≡ g c k
-  other c k e = cond-false (test c k) (reported s v) (g c k) e
+  other c k e = cond-false (test c k) (Some (s, v)) (g c k) e
 
-  written : (c k : ℕ) → test c k ≡ true → h c k ≡ reported s v
-  written c k e = cond-true (test c k) (reported s v) (g c k) e
+  written : (c k : ℕ) → test c k ≡ true → h c k ≡ Some (s, v)
+  written c k e = cond-true (test c k) (Some (s, v)) (g c k) e
 
-  -- a slot's content entry keeps its timestamp and stays
-  present_same : (j : ℕ) → (h j j).present ≡ (g j j).present
-  present_same j =
+  -- what a slot is watched for stays
+  time_same : (j : ℕ) → timestamp_of (h j j) ≡ timestamp_of (g j j)
+  time_same j =
       elim (cases_Bool (test j j)) [
         | inl e ↦
             let p = and_parts (ltb j n) (watches above g s j) (and_parts (eqb b j) (ltb j n && watches above g s j) e).1 in
-            ap (λ x. x.present) (written j j e) ∙ sym (and_parts (g j j).present (level above s (g j j).timestamp) p.1).0
-        | inr e ↦ ap (λ x. x.present) (other j j e)
-      ]
-
-  timestamp_same : (j : ℕ) → (h j j).timestamp ≡ (g j j).timestamp
-  timestamp_same j =
-      elim (cases_Bool (test j j)) [
-        | inl e ↦
-            let p = and_parts (ltb j n) (watches above g s j) (and_parts (eqb b j) (ltb j n && watches above g s j) e).1 in
-            ap (λ x. x.timestamp) (written j j e) ∙ level_equal above ordered s (g j j).timestamp (and_parts (g j j).present (level above s (g j j).timestamp) p.1).1
-        | inr e ↦ ap (λ x. x.timestamp) (other j j e)
+            ap timestamp_of (written j j e) ∙ equals_some above ordered s (timestamp_of (g j j)) p.1
+        | inr e ↦ ap timestamp_of (other j j e)
       ]
 
   watches_same : (t : S) (j : ℕ) → watches above h t j ≡ watches above g t j
-  watches_same t j = ap₂ (λ x y. x && level above t y) (present_same j) (timestamp_same j)
+  watches_same t j = ap (equals above t) (time_same j)
 
   abbrev take_in : S → ℕ → Bool
   take_in t i = level above s t && among above s (slots g i)
 
   pushed : (t : S) (i : ℕ) → take_in t (suc i) ≡ (level above s t && (among above s (slots g i) || watches above g s i))
-  pushed t i = ap (λ x. level above s t && x) (among_push above s (g i i).timestamp (slots g i) (g i i).present)
+  pushed t i = ap (λ x. level above s t && x) (among_push above s (slots g i) (timestamp_of (g i i)))
 
   kept_content : (t : S) (i : ℕ) → i ≤ n → kept above h b t i ≡ cond (take_in t i) (Some v) (kept above g b t i)
   kept_content t zero l = sym (cond-false (level above s t && false) (Some v) None (and_right (level above s t) false refl))
@@ -106,7 +103,7 @@ module _ {S V : Type 0} (above : S → S → Bool) {owner : S → ℕ} {low : S}
             let hits : watches above g s i ≡ watches above g t i = ap (λ x. watches above g x i) st in
             elim (cases_Bool (watches above g t i)) [
               | inl f ↦
-                  let mine : h b i ≡ reported s v = written b i (and_from (eqb b b) (ltb i n && watches above g s i) (eq-eqb b b refl) (and_from (ltb i n) (watches above g s i) (lt-ltb i n here) (hits ∙ f))) in
+                  let mine : h b i ≡ Some (s, v) = written b i (and_from (eqb b b) (ltb i n && watches above g s i) (eq-eqb b b refl) (and_from (ltb i n) (watches above g s i) (lt-ltb i n here) (hits ∙ f))) in
                   cond-true (watches above g t i) (content (h b i)) (kept above h b t i) f ∙ ap content mine
                   ∙ sym (cond-true (take_in t (suc i)) (Some v) (kept above g b t (suc i)) (pushed t i ∙ grind (arith, nat_tests, hits, e, f)))
               | inr f ↦
@@ -121,9 +118,9 @@ module _ {S V : Type 0} (above : S → S → Bool) {owner : S → ℕ} {low : S}
               | inl f ↦
                   let miss : watches above g s i ≡ false = elim (cases_Bool (watches above g s i)) [
                     | inl q ↦
-                        let a = level_equal above ordered s (g i i).timestamp (and_parts (g i i).present (level above s (g i i).timestamp) q).1 in
-                        let z = level_equal above ordered t (g i i).timestamp (and_parts (g i i).present (level above t (g i i).timestamp) f).1 in
-                        absurd (both_ways (level above s t) e (ap (λ x. level above s x) (z ∙ sym a) ∙ level_same above ordered s))
+                        let a = equals_some above ordered s (timestamp_of (g i i)) q in
+                        let z = equals_some above ordered t (timestamp_of (g i i)) f in
+                        absurd (both_ways (level above s t) e (ap (λ x. equals above s x) (z ∙ sym a) ∙ level_same above ordered s))
                     | inr q ↦ q
                   ] in
                   cond-true (watches above g t i) (content (h b i)) (kept above h b t i) f
@@ -143,10 +140,10 @@ module _ {S V : Type 0} (above : S → S → Bool) {owner : S → ℕ} {low : S}
   pub note_all : shown above d n h ≡ noted above (shown above d n g) b s v
   note_all =
       same_reading (shown above d n h) (noted above (shown above d n g) b s v)
-      (λ c. ap (λ x. cond (ltb c n) x.present false) (late_same c))
-      (λ c. ap (λ x. cond (ltb c n) x.timestamp d.timestamp) (late_same c))
-      (λ c. ap (λ x. cond (ltb c n) x.value d.value) (late_same c))
-      (slots_same h g n (λ j l. present_same j) (λ j l. timestamp_same j))
+      (λ c. ap (λ x. is_some (cond (ltb c n) x None)) (late_same c))
+      (λ c. ap (λ x. (unwrap_or (cond (ltb c n) x None) d).0) (late_same c))
+      (λ c. ap (λ x. (unwrap_or (cond (ltb c n) x None) d).1) (late_same c))
+      (slots_same h g n (λ j l. time_same j))
       (λ c t. elim (cases_Bool (eqb b c)) [
         | inl e ↦
             let bc : b ≡ c = eqb-true b c e in

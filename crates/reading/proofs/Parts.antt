@@ -1,10 +1,9 @@
 -- The reports of a client at the front of a longer memory, and memory in which all is blank.
-use Rattle.std.proofs.Common.{◌≡◌, ℕ, ◌+◌, ◌*◌, ◌<◌, ◌≤◌, Bool, true, ltb, leb, List, ◌++◌, length, get_or, take, drop, replicate, Option, ap, ◌∙◌, subst, inl, inr, arith}
+use Rattle.std.proofs.Common.{◌≡◌, ℕ, ◌+◌, ◌*◌, ◌<◌, ◌≤◌, Bool, true, ltb, leb, List, ◌++◌, length, get_or, take, drop, replicate, None, Option, ap, ◌∙◌, subst, inl, inr, arith}
 use Rattle.std.proofs.lemmas.List.{length-take-le, get_or-take, get_or_append_left, drop-append-le, drop_all, length-replicate, get_or-replicate, get_or_past}
 use Rattle.std.proofs.lemmas.Bool.{cases_lt, and_parts, leb-true, ltb-true}
-use Rattle.reading.specs.declared.reports.Report.{Report}
 use Rattle.reading.specs.Readings.{rules, unread, heard, decide}
-use Rattle.reading.specs.Reports.{Room, cell, blank, view}
+use Rattle.reading.specs.Reports.{Room, Report, cell, view}
 use Rattle.reading.specs.Hearing.{Heard, enough_memory, after_value, decided}
 use Rattle.reading.proofs.Cells.{inside}
 use Rattle.reading.proofs.Views.{shown_same}
@@ -18,31 +17,30 @@ pub server_enough : {R : Type 0} (n : ℕ) (p : List R) (b : ℕ) → enough_mem
 server_enough n p b e = ltb-true b n (and_parts (leb (n * (n + 1)) (length p)) (ltb b n) e).1
 
 -- a blank entry stands at each place, past the end too
-get_d_blank : {R : Type 0} (m k : ℕ) (d : R) → get_or (replicate m d) k d ≡ d
-get_d_blank m k d =
+get_blank : {R : Type 0} (m k : ℕ) (d : R) → get_or (replicate m d) k d ≡ d
+get_blank m k d =
     let long = length-replicate m d in
     elim (cases_lt k m) [ inl l ↦ get_or-replicate m k d d l | inr l ↦ get_or_past (replicate m d) k d (omega arith) ]
 
 module _ {S V : Type 0} (above : S → S → Bool) where
   -- blank memory shows that nothing is known
-  pub view_blank : (lowest : S) (initial : V) (n m : ℕ) → view above (blank lowest initial) n (replicate m (blank lowest initial)) ≡ unread lowest initial
+  pub view_blank : (lowest : S) (initial : V) (n m : ℕ) → view above (lowest, initial) n (replicate m None) ≡ unread lowest initial
   view_blank lowest initial n m =
-      let d = blank lowest initial in
-      shown_same above d n (cell d n (replicate m d)) (λ x k. d) (λ x k l h. get_d_blank m (x * (n + 1) + k) d) ∙ unread_all above lowest initial n
+      shown_same above (lowest, initial) n (cell n (replicate m None)) (λ x k. None) (λ x k l h. get_blank m (x * (n + 1) + k) None) ∙ unread_all above lowest initial n
 
-  module _ (d : Report S V) (n : ℕ) where
+  module _ (d : S × V) (n : ℕ) where
     -- only the first n * (n + 1) entries are shown
     pub view_take : (p : List (Report S V)) → Room n p → view above d n (take (n * (n + 1)) p) ≡ view above d n p
     view_take p room =
         let long = length-take-le (n * (n + 1)) p room.long in
         let front : Room n (take (n * (n + 1)) p) = record { few = room.few; long = omega arith } in
-        shown_same above d n (cell d n (take (n * (n + 1)) p)) (cell d n p)
-        (λ x k l h. get_or-take (n * (n + 1)) p (x * (n + 1) + k) d (omega (arith, long, inside n (take (n * (n + 1)) p) x k front l h)))
+        shown_same above d n (cell n (take (n * (n + 1)) p)) (cell n p)
+        (λ x k l h. get_or-take (n * (n + 1)) p (x * (n + 1) + k) None (omega (arith, long, inside n (take (n * (n + 1)) p) x k front l h)))
 
     pub view_append : (y z : List (Report S V)) → Room n y → view above d n (y ++ z) ≡ view above d n y
-    view_append y z room = shown_same above d n (cell d n (y ++ z)) (cell d n y) (λ x k l h. get_or_append_left y z d (x * (n + 1) + k) (inside n y x k room l h))
+    view_append y z room = shown_same above d n (cell n (y ++ z)) (cell n y) (λ x k l h. get_or_append_left y z None (x * (n + 1) + k) (inside n y x k room l h))
 
-module _ {S V : Type 0} (above : S → S → Bool) (same : V → V → Bool) (quorum fail_prone : (ℕ → Bool) → Bool) (d : Report S V) where
+module _ {S V : Type 0} (above : S → S → Bool) (same : V → V → Bool) (quorum fail_prone : (ℕ → Bool) → Bool) (d : S × V) where
   -- a VALUE that is heard within the reports is heard by the whole memory
   pub heard_whole : (n z k : ℕ) (p y : List (Report S V)) (b : ℕ) (t : S) (v : V) (r : Option (S × V)) → n ≡ z → k ≡ n * (n + 1) → Room n p → length y ≡ k
       → view above d n y ≡ after_value (rules n quorum fail_prone above same) d (take k p) b t v

@@ -1,9 +1,10 @@
 -- What memory shows after it is written.
-use Rattle.std.proofs.Common.{◌≡◌, ℕ, zero, suc, ◌<◌, ◌≤◌, Bool, true, false, cond, not, ◌&&◌, eqb, ltb, [], ◌∷◌, ◌++◌, None, sym, refl, ap, ◌∙◌, ap₂, inl, inr, arith}
+use Rattle.std.proofs.Common.{◌≡◌, ℕ, zero, suc, ◌<◌, ◌≤◌, Bool, true, false, cond, not, ◌&&◌, eqb, ltb, ◌++◌, None, sym, refl, ap, ◌∙◌, ap₂, inl, inr, arith}
 use Rattle.std.proofs.lemmas.Bool.{or_parts, not-false, cases_Bool, eqb-true, eq-eqb, ne_eqb, cond-true, cond-false, lt-ltb, le-ltb, ltb-true, and_left, and_right, and_from}
-use Rattle.reading.specs.declared.reports.Report.{Report}
-use Rattle.reading.specs.Readings.{Reading, level, updated, newer, raised}
-use Rattle.reading.specs.Reports.{Grid, slots, content, watches, kept, shown, put_at, reported}
+use Rattle.std.specs.Prelude.{is_some, Some}
+use Rattle.std.specs.Option.{unwrap_or}
+use Rattle.reading.specs.Readings.{Reading, updated, newer, raised}
+use Rattle.reading.specs.Reports.{Report, Grid, timestamp_of, content, listed, slots, equals, watches, kept, late, shown, put_at}
 
 -- readings with the same parts are the same
 pub same_reading : {S V : Type 0} (r q : Reading S V) → ((b : ℕ) → r.entered b ≡ q.entered b) → ((b : ℕ) → r.latest b ≡ q.latest b)
@@ -23,12 +24,9 @@ pub gone : {A : Type 0} (b n : ℕ) (x z : A) → n ≤ b → cond (ltb b n) x z
 gone b n x z l = cond-false (ltb b n) x z (le-ltb b n l)
 
 -- memory that is the same in range shows the same
-pub slots_same : {S V : Type 0} (g h : Grid S V) (n : ℕ) → ((j : ℕ) → j < n → (g j j).present ≡ (h j j).present) → ((j : ℕ) → j < n → (g j j).timestamp ≡ (h j j).timestamp)
-    → slots g n ≡ slots h n
-slots_same g h zero e s = refl
-slots_same g h (suc n) e s =
-    ap₂ ◌++◌ (slots_same g h n (λ j l. e j (omega arith)) (λ j l. s j (omega arith)))
-    (ap₂ (λ t x. cond t (x ∷ []) []) (e n (omega arith)) (s n (omega arith)))
+pub slots_same : {S V : Type 0} (g h : Grid S V) (n : ℕ) → ((j : ℕ) → j < n → timestamp_of (g j j) ≡ timestamp_of (h j j)) → slots g n ≡ slots h n
+slots_same g h zero e = refl
+slots_same g h (suc n) e = ap₂ ◌++◌ (slots_same g h n (λ j l. e j (omega arith))) (ap listed (e n (omega arith)))
 
 pub kept_same : {S V : Type 0} (above : S → S → Bool) (g h : Grid S V) (b : ℕ) (s : S) (n : ℕ) → ((j : ℕ) → j < n → watches above g s j ≡ watches above h s j)
     → ((j : ℕ) → j < n → content (g b j) ≡ content (h b j)) → kept above g b s n ≡ kept above h b s n
@@ -37,31 +35,30 @@ kept_same above g h b s (suc n) e o =
     ap (λ t. cond t (content (g b n)) (kept above g b s n)) (e n (omega arith))
     ∙ ap₂ (λ x y. cond (watches above h s n) x y) (o n (omega arith)) (kept_same above g h b s n (λ j l. e j (omega arith)) (λ j l. o j (omega arith)))
 
-pub shown_same : {S V : Type 0} (above : S → S → Bool) (d : Report S V) (n : ℕ) (g h : Grid S V) → ((c k : ℕ) → c < n → k ≤ n → g c k ≡ h c k)
+pub shown_same : {S V : Type 0} (above : S → S → Bool) (d : S × V) (n : ℕ) (g h : Grid S V) → ((c k : ℕ) → c < n → k ≤ n → g c k ≡ h c k)
     → shown above d n g ≡ shown above d n h
 shown_same above d n g h e =
+    let last : (b : ℕ) → late n g b ≡ late n h b = λ b. guard b n (g b n) (h b n) None (λ l. e b n l (omega arith)) in
     same_reading (shown above d n g) (shown above d n h)
-    (λ b. guard b n (g b n).present (h b n).present false (λ l. ap (λ r. r.present) (e b n l (omega arith))))
-    (λ b. guard b n (g b n).timestamp (h b n).timestamp d.timestamp (λ l. ap (λ r. r.timestamp) (e b n l (omega arith))))
-    (λ b. guard b n (g b n).value (h b n).value d.value (λ l. ap (λ r. r.value) (e b n l (omega arith))))
-    (slots_same g h n (λ j l. ap (λ r. r.present) (e j j l (omega arith))) (λ j l. ap (λ r. r.timestamp) (e j j l (omega arith))))
+    (λ b. ap is_some (last b)) (λ b. ap (λ r. (unwrap_or r d).0) (last b)) (λ b. ap (λ r. (unwrap_or r d).1) (last b))
+    (slots_same g h n (λ j l. ap timestamp_of (e j j l (omega arith))))
     (λ b s. guard b n (kept above g b s n) (kept above h b s n) None (λ l.
-    kept_same above g h b s n (λ j m. ap (λ r. r.present && level above s r.timestamp) (e j j m (omega arith))) (λ j m. ap content (e b j l (omega arith)))))
+    kept_same above g h b s n (λ j m. ap (λ r. equals above s (timestamp_of r)) (e j j m (omega arith))) (λ j m. ap content (e b j l (omega arith)))))
 
 -- ---- a server's latest pair
 
-module _ {S V : Type 0} (above : S → S → Bool) (d : Report S V) (n : ℕ) (g : Grid S V) (b : ℕ) (hb : b < n) where
-  late_put : {A : Type 0} (F : Report S V → A) (x : Report S V) (z : A) (c : ℕ) → cond (ltb c n) (F (put_at g b n x c n)) z ≡ cond (eqb b c) (F x) (cond (ltb c n) (F (g c n)) z)
-  late_put F x z c =
+module _ {S V : Type 0} (above : S → S → Bool) (d : S × V) (n : ℕ) (g : Grid S V) (b : ℕ) (hb : b < n) where
+  late_put : {A : Type 0} (F : Report S V → A) (x : Report S V) (c : ℕ) → F (late n (put_at g b n x) c) ≡ cond (eqb b c) (F x) (F (late n g c))
+  late_put F x c =
       elim (cases_Bool (eqb b c)) [
         | inl e ↦
             let bc : b ≡ c = eqb-true b c e in
-            cond-true (ltb c n) (F (put_at g b n x c n)) z (lt-ltb c n (omega arith))
-            ∙ ap F (cond-true (eqb b c && eqb n n) x (g c n) (and_from (eqb b c) (eqb n n) e (eq-eqb n n refl)))
-            ∙ sym (cond-true (eqb b c) (F x) (cond (ltb c n) (F (g c n)) z) e)
+            ap F (cond-true (ltb c n) (put_at g b n x c n) None (lt-ltb c n (omega arith))
+            ∙ cond-true (eqb b c && eqb n n) x (g c n) (and_from (eqb b c) (eqb n n) e (eq-eqb n n refl)))
+            ∙ sym (cond-true (eqb b c) (F x) (F (late n g c)) e)
         | inr e ↦
-            ap (λ r. cond (ltb c n) (F r) z) (cond-false (eqb b c && eqb n n) x (g c n) (and_left (eqb b c) (eqb n n) e))
-            ∙ sym (cond-false (eqb b c) (F x) (cond (ltb c n) (F (g c n)) z) e)
+            ap (λ r. F (cond (ltb c n) r None)) (cond-false (eqb b c && eqb n n) x (g c n) (and_left (eqb b c) (eqb n n) e))
+            ∙ sym (cond-false (eqb b c) (F x) (F (late n g c)) e)
       ]
 
   put_other : (x : Report S V) (c j : ℕ) → j < n → put_at g b n x c j ≡ g c j
@@ -74,17 +71,18 @@ module _ {S V : Type 0} (above : S → S → Bool) (d : Report S V) (n : ℕ) (g
         | inr e ↦ sym (cond-false (eqb b c) x (f c) e)
       ]
 
-  pub raise_yes : (s : S) (v : V) → newer above (shown above d n g) b s ≡ true → shown above d n (put_at g b n (reported s v)) ≡ raised above (shown above d n g) b s v
+  pub raise_yes : (s : S) (v : V) → newer above (shown above d n g) b s ≡ true → shown above d n (put_at g b n (Some (s, v))) ≡ raised above (shown above d n g) b s v
   raise_yes s v new =
-      let h = put_at g b n (reported s v) in
+      let x : Report S V = Some (s, v) in
+      let h = put_at g b n x in
       let r = shown above d n g in
       same_reading (shown above d n h) (raised above r b s v)
-      (λ c. late_put (λ x. x.present) (reported s v) false c)
-      (λ c. late_put (λ x. x.timestamp) (reported s v) d.timestamp c ∙ ap (λ x. cond (eqb b c) x (r.latest c)) (sym (cond-true (newer above r b s) s (r.latest b) new)))
-      (λ c. late_put (λ x. x.value) (reported s v) d.value c ∙ ap (λ x. cond (eqb b c) x (r.latest_value c)) (sym (cond-true (newer above r b s) v (r.latest_value b) new)))
-      (slots_same h g n (λ j l. ap (λ x. x.present) (put_other (reported s v) j j l)) (λ j l. ap (λ x. x.timestamp) (put_other (reported s v) j j l)))
+      (λ c. late_put is_some x c)
+      (λ c. late_put (λ y. (unwrap_or y d).0) x c ∙ ap (λ t. cond (eqb b c) t (r.latest c)) (sym (cond-true (newer above r b s) s (r.latest b) new)))
+      (λ c. late_put (λ y. (unwrap_or y d).1) x c ∙ ap (λ u. cond (eqb b c) u (r.latest_value c)) (sym (cond-true (newer above r b s) v (r.latest_value b) new)))
+      (slots_same h g n (λ j l. ap timestamp_of (put_other x j j l)))
       (λ c t. guard c n (kept above h c t n) (kept above g c t n) None (λ l.
-      kept_same above h g c t n (λ j m. ap (λ x. x.present && level above t x.timestamp) (put_other (reported s v) j j m)) (λ j m. ap content (put_other (reported s v) c j m))))
+      kept_same above h g c t n (λ j m. ap (λ y. equals above t (timestamp_of y)) (put_other x j j m)) (λ j m. ap content (put_other x c j m))))
 
   pub raise_no : (s : S) (v : V) → newer above (shown above d n g) b s ≡ false → shown above d n g ≡ raised above (shown above d n g) b s v
   raise_no s v old =

@@ -1,7 +1,8 @@
 -- A decision slot by slot.
-use Rattle.std.specs.Prelude.{Bool, cond, Option}
+use Rattle.std.specs.Prelude.{Some, None, Option}
 use Rattle.reading.specs.Readings.{Rules, Reading, better, backed}
 
 -- of a slot's timestamp, where it is watched and a quorum has the same evidence for it, and another pair, the one with the higher timestamp
-abbrev pub bettered : {S V : Type 0} → Rules S V → Reading S V → Bool → S → Option (S × V) → Option (S × V)
-bettered K r present t rest = cond present (better K.above t (backed K r t K.n) rest) rest
+abbrev pub bettered : {S V : Type 0} → Rules S V → Reading S V → Option S → Option (S × V) → Option (S × V)
+bettered K r None rest = rest
+bettered K r (Some t) rest = better K.above t (backed K r t K.n) rest

@@ -2,7 +2,7 @@
 ghost use Rattle.std.specs.Prelude.{◌≡◌, ◌<◌, ◌≤◌, Some};
 ghost use Rattle.quorums.specs.Sets.{members};
 ghost use Rattle.reading.specs.Readings.{rules, backers, value_of, better, backed, decide};
-ghost use Rattle.reading.specs.Reports.{cell, blank, view};
+ghost use Rattle.reading.specs.Reports.{cell, timestamp_of, view};
 ghost use Rattle.reading.specs.Deciding.{bettered};
 
 use crate::evidence::evidence_of;
@@ -21,12 +21,9 @@ fn is_backer<S: Timestamp, V: Value>(
     server: u8,
 ) -> bool
     requires row { server < n }
-    ensures { result ≡ backers V.same (view S.above (blank S.lowest V.initial_value) n part.now) timestamp value server }
+    ensures { result ≡ backers V.same (view S.above (S.lowest, V.initial_value) n part.now) timestamp value server }
 {
-    match evidence_of(part, n, server, timestamp) {
-        Some(known) => known.is_same(value),
-        None => false,
-    }
+    evidence_of(part, n, server, timestamp).is_some_and(|known| known.is_same(value))
 }
 
 // The servers whose evidence for the timestamp is this value.
@@ -37,7 +34,7 @@ fn backers<S: Timestamp, V: Value>(
     value: V,
 ) -> ServerSet
     requires few { n ≤ 16 }
-    ensures { members result ≡ backers V.same (view S.above (blank S.lowest V.initial_value) n part.now) timestamp value }
+    ensures { members result ≡ backers V.same (view S.above (S.lowest, V.initial_value) n part.now) timestamp value }
 {
     let mut set = ServerSet::empty();
     for server in 0..n {
@@ -46,6 +43,20 @@ fn backers<S: Timestamp, V: Value>(
         }
     }
     set
+}
+
+// Whether a quorum has this value as its evidence for the timestamp.
+fn is_backed<Q: QuorumSystem, S: Timestamp, V: Value>(
+    system: &Q,
+    part: &[Report<S, V>],
+    n: u8,
+    timestamp: S,
+    value: V,
+) -> bool
+    requires few { n ≤ 16 }
+    ensures { result ≡ Q.quorum system.now (backers V.same (view S.above (S.lowest, V.initial_value) n part.now) timestamp value) }
+{
+    system.is_quorum(backers(part, n, timestamp, value))
 }
 
 // The server's evidence for the timestamp, if a quorum has the same; else the rest.
@@ -59,15 +70,11 @@ fn weighed<Q: QuorumSystem, S: Timestamp, V: Value>(
 ) -> Option<V>
     requires few { n ≤ 16 }
     requires row { server < n }
-    ensures { result ≡ value_of (λ v. Q.quorum system.now (backers V.same (view S.above (blank S.lowest V.initial_value) n part.now) timestamp v)) ((view S.above (blank S.lowest V.initial_value) n part.now).evidence server timestamp) rest }
+    ensures { result ≡ value_of (λ v. Q.quorum system.now (backers V.same (view S.above (S.lowest, V.initial_value) n part.now) timestamp v)) ((view S.above (S.lowest, V.initial_value) n part.now).evidence server timestamp) rest }
 {
     match evidence_of(part, n, server, timestamp) {
-        Some(value) => if system.is_quorum(backers(part, n, timestamp, value)) {
-            Some(value)
-        } else {
-            rest
-        },
-        None => rest,
+        Some(value) if is_backed(system, part, n, timestamp, value) => Some(value),
+        _ => rest,
     }
 }
 
@@ -79,7 +86,7 @@ fn backed<Q: QuorumSystem, S: Timestamp, V: Value>(
     timestamp: S,
 ) -> Option<V>
     requires few { n ≤ 16 }
-    ensures { result ≡ backed (rules n (Q.quorum system.now) (Q.fail_prone system.now) S.above V.same) (view S.above (blank S.lowest V.initial_value) n part.now) timestamp n }
+    ensures { result ≡ backed (rules n (Q.quorum system.now) (Q.fail_prone system.now) S.above V.same) (view S.above (S.lowest, V.initial_value) n part.now) timestamp n }
 {
     let mut found = None;
     for server in 0..n {
@@ -92,14 +99,8 @@ fn backed<Q: QuorumSystem, S: Timestamp, V: Value>(
 fn better<S: Timestamp, V: Value>(timestamp: S, value: V, rest: Option<(S, V)>) -> Option<(S, V)>
     ensures { result ≡ better S.above timestamp (Some value) rest }
 {
-    match rest {
-        Some((other, known)) => if other.is_above(timestamp) {
-            Some((other, known))
-        } else {
-            Some((timestamp, value))
-        },
-        None => Some((timestamp, value)),
-    }
+    rest.filter(|(other, _)| other.is_above(timestamp))
+        .or(Some((timestamp, value)))
 }
 
 // The slot's timestamp with the value that a quorum has for it, or the rest: of two, the one with the higher timestamp.
@@ -112,14 +113,13 @@ fn bettered<Q: QuorumSystem, S: Timestamp, V: Value>(
 ) -> Option<(S, V)>
     requires few { n ≤ 16 }
     requires column { slot < n }
-    ensures { result ≡ bettered (rules n (Q.quorum system.now) (Q.fail_prone system.now) S.above V.same) (view S.above (blank S.lowest V.initial_value) n part.now) (cell (blank S.lowest V.initial_value) n part.now slot slot).present (cell (blank S.lowest V.initial_value) n part.now slot slot).timestamp rest }
+    ensures { result ≡ bettered (rules n (Q.quorum system.now) (Q.fail_prone system.now) S.above V.same) (view S.above (S.lowest, V.initial_value) n part.now) (timestamp_of (cell n part.now slot slot)) rest }
 {
-    let leader = entry(part, n, slot, slot);
-    if !leader.present {
+    let Some((timestamp, _)) = entry(part, n, slot, slot) else {
         return rest;
-    }
-    match backed(system, part, n, leader.timestamp) {
-        Some(value) => better(leader.timestamp, value, rest),
+    };
+    match backed(system, part, n, timestamp) {
+        Some(value) => better(timestamp, value, rest),
         None => rest,
     }
 }
@@ -131,7 +131,7 @@ pub(crate) fn decide<Q: QuorumSystem, S: Timestamp, V: Value>(
     n: u8,
 ) -> Option<(S, V)>
     requires few { n ≤ 16 }
-    ensures { result ≡ decide (rules n (Q.quorum system.now) (Q.fail_prone system.now) S.above V.same) (view S.above (blank S.lowest V.initial_value) n part.now) (view S.above (blank S.lowest V.initial_value) n part.now).watched }
+    ensures { result ≡ decide (rules n (Q.quorum system.now) (Q.fail_prone system.now) S.above V.same) (view S.above (S.lowest, V.initial_value) n part.now) (view S.above (S.lowest, V.initial_value) n part.now).watched }
 {
     let mut best = None;
     for slot in (0..n).rev() {

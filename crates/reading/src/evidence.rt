@@ -2,21 +2,20 @@
 ghost use Rattle.std.specs.Prelude.{◌≡◌, ℕ, ◌<◌, ◌≤◌};
 ghost use Rattle.quorums.specs.Sets.{members};
 ghost use Rattle.reading.specs.Readings.{rules, noted, rewatched};
-ghost use Rattle.reading.specs.Reports.{Room, cell, blank, view, watches, fresh, anew, renew_from};
+ghost use Rattle.reading.specs.Reports.{Room, cell, view, watches, has, fresh, anew, renew_from};
 
-use crate::order::{is_level, leaders};
+use crate::order::{latest, leaders};
 use crate::reports::{Report, entry, put};
 use quorums::QuorumSystem;
 use quorums::sets::ServerSet;
-use timestamps::Timestamp;
+use timestamps::{Timestamp, is_level};
 use values::Value;
 
 // Whether the slot is watched for the timestamp.
 fn is_watched<S: Timestamp, V: Value>(part: &[Report<S, V>], n: u8, timestamp: S, slot: u8) -> bool
-    ensures { result ≡ watches S.above (cell (blank S.lowest V.initial_value) n part.now) timestamp slot }
+    ensures { result ≡ watches S.above (cell n part.now) timestamp slot }
 {
-    let leader = entry(part, n, slot, slot);
-    leader.present && is_level(timestamp, leader.timestamp)
+    entry(part, n, slot, slot).is_some_and(|(leader, _)| is_level(timestamp, leader))
 }
 
 // The server's evidence for the timestamp.
@@ -27,12 +26,12 @@ pub(crate) fn evidence_of<S: Timestamp, V: Value>(
     timestamp: S,
 ) -> Option<V>
     requires row { server < n }
-    ensures { result ≡ (view S.above (blank S.lowest V.initial_value) n part.now).evidence server timestamp }
+    ensures { result ≡ (view S.above (S.lowest, V.initial_value) n part.now).evidence server timestamp }
 {
     let mut last = None;
     for slot in 0..n {
         if is_watched(part, n, timestamp, slot) {
-            last = entry(part, n, server, slot).content();
+            last = entry(part, n, server, slot).map(|(_, value)| value);
         }
     }
     last
@@ -48,43 +47,39 @@ pub(crate) fn note<S: Timestamp, V: Value>(
 )
     requires room { Room n part.old }
     requires row { server < n }
-    ensures { view S.above (blank S.lowest V.initial_value) n part.new ≡ noted S.above (view S.above (blank S.lowest V.initial_value) n part.old) server timestamp value }
+    ensures { view S.above (S.lowest, V.initial_value) n part.new ≡ noted S.above (view S.above (S.lowest, V.initial_value) n part.old) server timestamp value }
 {
     for slot in 0..n {
         if is_watched(part, n, timestamp, slot) {
-            let report = Report {
-                present: true,
-                timestamp,
-                value,
-            };
-            put(part, n, server, slot, report);
+            put(part, n, server, slot, Some((timestamp, value)));
         }
     }
 }
 
-// The entry of what the server has for the latest timestamp of the slot's server: its latest value, or its evidence.
+// What the server has for the timestamp: its latest value, or its evidence.
+fn known_for<S: Timestamp, V: Value>(
+    part: &[Report<S, V>],
+    n: u8,
+    server: u8,
+    timestamp: S,
+) -> Option<V>
+    requires row { server < n }
+    ensures { result ≡ has S.above (view S.above (S.lowest, V.initial_value) n part.now) server timestamp }
+{
+    match entry(part, n, server, n) {
+        Some((latest, value)) if is_level(latest, timestamp) => Some(value),
+        _ => evidence_of(part, n, server, timestamp),
+    }
+}
+
+// The entry of what the server has for the latest timestamp of the slot's server.
 fn fresh<S: Timestamp, V: Value>(part: &[Report<S, V>], n: u8, server: u8, slot: u8) -> Report<S, V>
     requires row { server < n }
     requires column { slot < n }
-    ensures { result ≡ fresh S.above (blank S.lowest V.initial_value) (view S.above (blank S.lowest V.initial_value) n part.now) server slot }
+    ensures { result ≡ fresh S.above (view S.above (S.lowest, V.initial_value) n part.now) server slot }
 {
-    let timestamp = entry(part, n, slot, n).timestamp;
-    let latest = entry(part, n, server, n);
-    if latest.present && is_level(latest.timestamp, timestamp) {
-        return Report {
-            present: true,
-            timestamp,
-            value: latest.value,
-        };
-    }
-    match evidence_of(part, n, server, timestamp) {
-        Some(value) => Report {
-            present: true,
-            timestamp,
-            value,
-        },
-        None => Report::blank(),
-    }
+    let (timestamp, _) = latest(part, n, slot);
+    known_for(part, n, server, timestamp).map(|value| (timestamp, value))
 }
 
 // The server's entry in the slot after a server has entered.
@@ -97,19 +92,19 @@ fn anew<S: Timestamp, V: Value>(
 ) -> Report<S, V>
     requires row { server < n }
     requires column { slot < n }
-    ensures { result ≡ anew S.above (blank S.lowest V.initial_value) (members leading) (view S.above (blank S.lowest V.initial_value) n part.now) server slot }
+    ensures { result ≡ anew S.above (members leading) (view S.above (S.lowest, V.initial_value) n part.now) server slot }
 {
     if leading.contains(slot) {
         fresh(part, n, server, slot)
     } else {
-        Report::blank()
+        None
     }
 }
 
 // Writes the slots from the i-th on anew, counted row by row. Each is read on the way down and written on the way up, so that all are made from the reports as they were.
 fn renew<S: Timestamp, V: Value>(part: &mut [Report<S, V>], n: u8, leading: ServerSet, i: u16)
     requires room { Room n part.old }
-    ensures { (x k : ℕ) → x < n → k ≤ n → cell (blank S.lowest V.initial_value) n part.new x k ≡ renew_from (anew S.above (blank S.lowest V.initial_value) (members leading) (view S.above (blank S.lowest V.initial_value) n part.old)) n i (cell (blank S.lowest V.initial_value) n part.old) x k }
+    ensures { (x k : ℕ) → x < n → k ≤ n → cell n part.new x k ≡ renew_from (anew S.above (members leading) (view S.above (S.lowest, V.initial_value) n part.old)) n i (cell n part.old) x k }
 {
     let width = n as u16;
     if i < width * width {
@@ -128,7 +123,7 @@ pub(crate) fn watch_anew<Q: QuorumSystem, S: Timestamp, V: Value>(
     n: u8,
 )
     requires room { Room n part.old }
-    ensures { view S.above (blank S.lowest V.initial_value) n part.new ≡ rewatched (rules n (Q.quorum system.now) (Q.fail_prone system.now) S.above V.same) (view S.above (blank S.lowest V.initial_value) n part.old) }
+    ensures { view S.above (S.lowest, V.initial_value) n part.new ≡ rewatched (rules n (Q.quorum system.now) (Q.fail_prone system.now) S.above V.same) (view S.above (S.lowest, V.initial_value) n part.old) }
 {
     let leading = leaders(system, part, n);
     renew(part, n, leading, 0);

@@ -1,7 +1,7 @@
 // What a reading client does with its reports: it forgets them when a read begins, and takes in a VALUE of a server.
-ghost use Rattle.std.specs.Prelude.{◌≡◌, ℕ, ◌+◌, ◌*◌, ◌<◌, ◌&&◌, length, replicate, nat_le, nat_lt};
+ghost use Rattle.std.specs.Prelude.{◌≡◌, ℕ, ◌+◌, ◌*◌, ◌<◌, ◌&&◌, None, length, replicate, nat_le, nat_lt};
 ghost use Rattle.reading.specs.Readings.{rules, unread};
-ghost use Rattle.reading.specs.Reports.{Room, blank, view};
+ghost use Rattle.reading.specs.Reports.{Room, view};
 ghost use Rattle.reading.specs.Hearing.{Hearing, after_value, decided};
 
 use crate::decide::decide;
@@ -14,11 +14,11 @@ use values::Value;
 
 // A read begins: nothing is known.
 pub fn forget<S: Timestamp, V: Value>(part: &mut [Report<S, V>])
-    ensures memory { part.new ≡ replicate (length part.old) (blank S.lowest V.initial_value) }
-    ensures shows { (n : ℕ) → view S.above (blank S.lowest V.initial_value) n part.new ≡ unread S.lowest V.initial_value }
+    ensures memory { part.new ≡ replicate (length part.old) None }
+    ensures shows { (n : ℕ) → view S.above (S.lowest, V.initial_value) n part.new ≡ unread S.lowest V.initial_value }
 {
     for report in part.iter_mut() {
-        report.erase();
+        *report = None;
     }
 }
 
@@ -40,8 +40,8 @@ fn learn<Q: QuorumSystem, S: Timestamp, V: Value>(
 ) -> Option<(S, V)>
     requires room { Room n part.old }
     requires row { server < n }
-    ensures after { view S.above (blank S.lowest V.initial_value) n part.new ≡ after_value (rules n (Q.quorum system.now) (Q.fail_prone system.now) S.above V.same) (blank S.lowest V.initial_value) part.old server timestamp value }
-    ensures answer { result ≡ decided (rules n (Q.quorum system.now) (Q.fail_prone system.now) S.above V.same) (blank S.lowest V.initial_value) part.old server timestamp value }
+    ensures after { view S.above (S.lowest, V.initial_value) n part.new ≡ after_value (rules n (Q.quorum system.now) (Q.fail_prone system.now) S.above V.same) (S.lowest, V.initial_value) part.old server timestamp value }
+    ensures answer { result ≡ decided (rules n (Q.quorum system.now) (Q.fail_prone system.now) S.above V.same) (S.lowest, V.initial_value) part.old server timestamp value }
 {
     let known = raise(part, n, server, timestamp, value);
     if !known {
@@ -60,7 +60,7 @@ pub fn hear<Q: QuorumSystem, S: Timestamp, V: Value>(
     timestamp: S,
     value: V,
 ) -> Option<(S, V)>
-    ensures { Hearing (rules (Q.size system.now) (Q.quorum system.now) (Q.fail_prone system.now) S.above V.same) (blank S.lowest V.initial_value) part.old server timestamp value result part.new }
+    ensures { Hearing (rules (Q.size system.now) (Q.quorum system.now) (Q.fail_prone system.now) S.above V.same) (S.lowest, V.initial_value) part.old server timestamp value result part.new }
 {
     let n = system.servers();
     if !is_enough(part.len(), n, server) {

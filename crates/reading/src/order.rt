@@ -1,8 +1,8 @@
 // The servers' latest pairs, and the order that they put the servers in.
 ghost use Rattle.std.specs.Prelude.{◌≡◌, ◌<◌, ◌≤◌};
 ghost use Rattle.quorums.specs.Sets.{members};
-ghost use Rattle.reading.specs.Readings.{rules, level, ahead, newer, raised, leads};
-ghost use Rattle.reading.specs.Reports.{Room, blank, view};
+ghost use Rattle.reading.specs.Readings.{rules, ahead, newer, raised, leads};
+ghost use Rattle.reading.specs.Reports.{Room, view};
 
 use crate::reports::{Report, entry, put};
 use quorums::QuorumSystem;
@@ -10,20 +10,28 @@ use quorums::sets::ServerSet;
 use timestamps::Timestamp;
 use values::Value;
 
-// Whether neither of two timestamps is above the other.
-pub(crate) fn is_level<S: Timestamp>(a: S, b: S) -> bool
-    ensures { result ≡ level S.above a b }
+// The server's latest pair; the initial one, where it has not entered.
+pub(crate) fn latest<S: Timestamp, V: Value>(part: &[Report<S, V>], n: u8, server: u8) -> (S, V)
+    requires row { server < n }
+    ensures { result ≡ ((view S.above (S.lowest, V.initial_value) n part.now).latest server, (view S.above (S.lowest, V.initial_value) n part.now).latest_value server) }
 {
-    !a.is_above(b) && !b.is_above(a)
+    entry(part, n, server, n).unwrap_or((S::initial(), V::initial()))
+}
+
+// Whether the server has entered.
+fn has_entered<S: Timestamp, V: Value>(part: &[Report<S, V>], n: u8, server: u8) -> bool
+    requires row { server < n }
+    ensures { result ≡ (view S.above (S.lowest, V.initial_value) n part.now).entered server }
+{
+    entry(part, n, server, n).is_some()
 }
 
 // Whether the timestamp would be the server's latest: of equals the earlier stays.
 fn is_newer<S: Timestamp, V: Value>(part: &[Report<S, V>], n: u8, server: u8, timestamp: S) -> bool
     requires row { server < n }
-    ensures { result ≡ newer S.above (view S.above (blank S.lowest V.initial_value) n part.now) server timestamp }
+    ensures { result ≡ newer S.above (view S.above (S.lowest, V.initial_value) n part.now) server timestamp }
 {
-    let latest = entry(part, n, server, n);
-    !latest.present || timestamp.is_above(latest.timestamp)
+    entry(part, n, server, n).is_none_or(|(latest, _)| timestamp.is_above(latest))
 }
 
 // Brings the server's latest pair up to date, and says whether the server had entered before.
@@ -36,38 +44,32 @@ pub(crate) fn raise<S: Timestamp, V: Value>(
 ) -> bool
     requires room { Room n part.old }
     requires row { server < n }
-    ensures was { result ≡ (view S.above (blank S.lowest V.initial_value) n part.old).entered server }
-    ensures after { view S.above (blank S.lowest V.initial_value) n part.new ≡ raised S.above (view S.above (blank S.lowest V.initial_value) n part.old) server timestamp value }
+    ensures was { result ≡ (view S.above (S.lowest, V.initial_value) n part.old).entered server }
+    ensures after { view S.above (S.lowest, V.initial_value) n part.new ≡ raised S.above (view S.above (S.lowest, V.initial_value) n part.old) server timestamp value }
 {
-    let latest = entry(part, n, server, n);
+    let known = has_entered(part, n, server);
     if is_newer(part, n, server, timestamp) {
-        let report = Report {
-            present: true,
-            timestamp,
-            value,
-        };
-        put(part, n, server, n, report);
+        put(part, n, server, n, Some((timestamp, value)));
     }
-    latest.present
+    known
 }
 
 // Whether another server is ahead of the server.
 fn is_ahead<S: Timestamp, V: Value>(part: &[Report<S, V>], n: u8, server: u8, other: u8) -> bool
     requires row { server < n }
     requires second { other < n }
-    ensures { result ≡ ahead S.above (view S.above (blank S.lowest V.initial_value) n part.now) server other }
+    ensures { result ≡ ahead S.above (view S.above (S.lowest, V.initial_value) n part.now) server other }
 {
-    let own = entry(part, n, server, n).timestamp;
-    let latest = entry(part, n, other, n);
-    latest.present
-        && (latest.timestamp.is_above(own) || !own.is_above(latest.timestamp) && other < server)
+    let (own, _) = latest(part, n, server);
+    entry(part, n, other, n).is_some_and(|(latest, _)| latest.is_above(own)
+        || !own.is_above(latest) && other < server)
 }
 
 // The servers that are ahead of the server.
 fn ahead_of<S: Timestamp, V: Value>(part: &[Report<S, V>], n: u8, server: u8) -> ServerSet
     requires few { n ≤ 16 }
     requires row { server < n }
-    ensures { members result ≡ ahead S.above (view S.above (blank S.lowest V.initial_value) n part.now) server }
+    ensures { members result ≡ ahead S.above (view S.above (S.lowest, V.initial_value) n part.now) server }
 {
     let mut set = ServerSet::empty();
     for other in 0..n {
@@ -87,9 +89,9 @@ fn is_leader<Q: QuorumSystem, S: Timestamp, V: Value>(
 ) -> bool
     requires few { n ≤ 16 }
     requires row { server < n }
-    ensures { result ≡ leads (rules n (Q.quorum system.now) (Q.fail_prone system.now) S.above V.same) (view S.above (blank S.lowest V.initial_value) n part.now) server }
+    ensures { result ≡ leads (rules n (Q.quorum system.now) (Q.fail_prone system.now) S.above V.same) (view S.above (S.lowest, V.initial_value) n part.now) server }
 {
-    entry(part, n, server, n).present && system.is_fail_prone(ahead_of(part, n, server))
+    has_entered(part, n, server) && system.is_fail_prone(ahead_of(part, n, server))
 }
 
 // The servers that lead.
@@ -99,7 +101,7 @@ pub(crate) fn leaders<Q: QuorumSystem, S: Timestamp, V: Value>(
     n: u8,
 ) -> ServerSet
     requires few { n ≤ 16 }
-    ensures { members result ≡ leads (rules n (Q.quorum system.now) (Q.fail_prone system.now) S.above V.same) (view S.above (blank S.lowest V.initial_value) n part.now) }
+    ensures { members result ≡ leads (rules n (Q.quorum system.now) (Q.fail_prone system.now) S.above V.same) (view S.above (S.lowest, V.initial_value) n part.now) }
 {
     let mut set = ServerSet::empty();
     for server in 0..n {

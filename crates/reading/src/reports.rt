@@ -1,44 +1,13 @@
 // The reports of one reading client: a row of n + 1 entries for each of the n servers.
 // Entries 0 to n - 1 of a row are the slots, and entry n is the server's latest pair.
 ghost use Rattle.std.specs.Prelude.{◌≡◌, ◌+◌, ◌*◌, slice_set};
-ghost use Rattle.reading.specs.Reports.{cell, blank, content};
+ghost use Rattle.reading.specs.Reports.{cell};
 
 use timestamps::Timestamp;
 use values::Value;
 
-#[derive(Clone, Copy)]
-pub struct Report<S, V> {
-    pub present: bool,
-    pub timestamp: S,
-    pub value: V,
-}
-
-impl<S: Timestamp, V: Value> Report<S, V> {
-    // An entry that reports nothing.
-    pub fn blank() -> Report<S, V>
-        ensures { result ≡ blank S.lowest V.initial_value }
-    {
-        Report {
-            present: false,
-            timestamp: S::initial(),
-            value: V::initial(),
-        }
-    }
-
-    // The entry reports nothing from now on.
-    pub(crate) fn erase(&mut self)
-        ensures { self.new ≡ blank S.lowest V.initial_value }
-    {
-        *self = Report::blank();
-    }
-
-    // The value that the entry reports.
-    pub(crate) fn content(self) -> Option<V>
-        ensures { result ≡ content self }
-    {
-        if self.present { Some(self.value) } else { None }
-    }
-}
+// An entry: the pair that it reports, or nothing.
+pub type Report<S, V> = Option<(S, V)>;
 
 // How many entries the reports of n servers have.
 pub fn entries_for(n: u8) -> usize
@@ -61,14 +30,9 @@ pub(crate) fn entry<S: Timestamp, V: Value>(
     server: u8,
     place: u8,
 ) -> Report<S, V>
-    ensures { result ≡ cell (blank S.lowest V.initial_value) n part.now server place }
+    ensures { result ≡ cell n part.now server place }
 {
-    let index = index_of(n, server, place);
-    if index < part.len() {
-        part[index]
-    } else {
-        Report::blank()
-    }
+    part.get(index_of(n, server, place)).copied().flatten()
 }
 
 // Writes an entry of a server's row; past the end of the memory nothing is written.

@@ -1,8 +1,8 @@
 use Rattle.std.proofs.Common.{◌≡◌, ℕ, ◌≤◌}
-use Rattle.reading.specs.Reports.{blank, cell, note_to}
+use Rattle.reading.specs.Reports.{cell, note_to}
 use Rattle.reading.proofs.evidence.note.Given as goal
 
 abbrev pub invariant-loop-slot : goal.invariant-loop-slot
 invariant-loop-slot g l =
-    (x k : ℕ) → k ≤ l.n → cell (blank g.S.Timestamp.lowest g.V.Value.initial_value) l.n l.part x k
-    ≡ note_to g.S.Timestamp.above l.slot (cell (blank g.S.Timestamp.lowest g.V.Value.initial_value) l.n l.initial.part) l.server l.timestamp l.value x k
+    (x k : ℕ) → k ≤ l.n → cell l.n l.part x k
+    ≡ note_to g.S.Timestamp.above l.slot (cell l.n l.initial.part) l.server l.timestamp l.value x k

@@ -1,7 +1,7 @@
 use Rattle.std.proofs.Common.{◌≡◌, ◌≤◌, true, false, sym, refl, ap, ◌∙◌, subst, arith}
 use Rattle.std.proofs.lemmas.List.{length-take-le}
 use Rattle.std.proofs.lemmas.Bool.{both_ways}
-use Rattle.reading.specs.Reports.{Room, blank}
+use Rattle.reading.specs.Reports.{Room}
 use Rattle.reading.specs.Hearing.{enough_memory}
 use Rattle.reading.proofs.Parts.{room_enough, server_enough, heard_whole}
 use Rattle.reading.proofs.hear.hear.Goals as goal
@@ -44,7 +44,7 @@ returns g c =
     let q = c.args.system.now in
     let p = c.args.part.now in
     let b = c.args.server in
-    let d = blank g.S.Timestamp.lowest g.V.Value.initial_value in
+    let d : g.row.S.Denot × g.row.V.Denot = (g.S.Timestamp.lowest, g.V.Value.initial_value) in
     let z = g.Q.QuorumSystem.size q in
     let nz : n ≡ z = c.servers-n.ensures in
     let few : n ≤ 16 = subst (λ k. k ≤ 16) (sym nz) (g.met.Q.QuorumSystem.lawful q).few_servers in
