@@ -1,9 +1,9 @@
 -- The threshold system: how many servers make a quorum, and how many may be faulty.
-use Rattle.std.specs.Prelude.{◌≡◌, ℕ, ◌+◌, ◌*◌, ◌/◌, Bool, ◌||◌, List, [], ◌∷◌, Some, None, Ok, Err, Result, ◌==◌, nat_le, nat_lt}
+use Rattle.std.specs.Prelude.{◌≡◌, ℕ, ◌+◌, ◌*◌, ◌/◌, Bool, ◌||◌, List, [], ◌∷◌, Some, None, Ok, Err, Result, nat_le, nat_lt}
 use Rattle.calls.specs.Refusals.{Check, first_failed}
 use Rattle.calls.specs.declared.Refusal.{Refusal}
 use Rattle.calls.specs.declared.Refusal.TheVariants.{SystemSize}
-use Rattle.quorums.specs.Sets.{Set, tally}
+use Rattle.quorums.specs.Sets.{Set, tally, refused_size}
 use Rattle.quorums.specs.declared.threshold.Threshold.{Threshold}
 
 -- how many servers are a quorum: (n + f + 1) / 2, rounded up
@@ -24,7 +24,7 @@ threshold_fail_prone q s = nat_le (tally q.n s) q.f
 
 -- the one check: that n is 1 to 16, f at most 5, and 3 f + 1 at most n
 abbrev pub threshold_checks : ℕ → ℕ → List Check
-threshold_checks n f = (n == 0 || nat_lt 16 n || nat_lt 5 f || nat_lt n (3 * f + 1), SystemSize) ∷ []
+threshold_checks n f = (refused_size n || nat_lt 5 f || nat_lt n (3 * f + 1), SystemSize) ∷ []
 
 -- what opening a threshold system answers: the system of n and f where the check passes, and else its refusal
 abbrev pub Opened : ℕ → ℕ → Result Threshold Refusal → Type 0

@@ -3,7 +3,8 @@ use Rattle.std.specs.Prelude.{◌≡◌, ℕ, Bool, ◌||◌, List, [], ◌∷�
 use Rattle.calls.specs.Refusals.{Check, first_failed}
 use Rattle.calls.specs.declared.Refusal.{Refusal}
 use Rattle.calls.specs.declared.Refusal.TheVariants.{SystemSize, ListedSets, SetsCover}
-use Rattle.quorums.specs.Sets.{Set, members, any}
+use Rattle.std.specs.List.{list_any}
+use Rattle.quorums.specs.Sets.{Set, members, refused_size}
 use Rattle.quorums.specs.Lists.{contained, completed, covered, past}
 use Rattle.quorums.specs.declared.listed.Listed.{Listed}
 use Rattle.quorums.specs.declared.sets.ServerSet.{ServerSet}
@@ -26,11 +27,11 @@ listed_fail_prone q s = contained q.n (sets_of q) s
 
 -- there is no set, there are over 128, or some set has a server from n on
 abbrev pub bad_list : ℕ → List ServerSet → Bool
-bad_list n sets = length sets == 0 || nat_lt 128 (length sets) || any (λ s. past n (members s)) sets
+bad_list n sets = length sets == 0 || nat_lt 128 (length sets) || list_any (λ s. past n (members s)) sets
 
 -- the checks in their order: that n is 1 to 16, that the list is not bad, that no three sets cover all servers
 abbrev pub listed_checks : ℕ → List ServerSet → List Check
-listed_checks n sets = (n == 0 || nat_lt 16 n, SystemSize) ∷ (bad_list n sets, ListedSets) ∷ (covered n sets, SetsCover) ∷ []
+listed_checks n sets = (refused_size n, SystemSize) ∷ (bad_list n sets, ListedSets) ∷ (covered n sets, SetsCover) ∷ []
 
 -- what opening a listed system answers: the system of these sets where each check passes, and else the first refusal
 abbrev pub Opened : ℕ → List ServerSet → Result Listed Refusal → Type 0

@@ -2,7 +2,8 @@
 use Rattle.std.specs.Prelude.{◌≡◌, ℕ, zero, suc, ◌<◌, ◌≤◌, Bool, true, false, not, ◌||◌, List, [], ◌∷◌, length, refl}
 use Rattle.std.proofs.Common.{inl, inr, arith}
 use Rattle.std.proofs.lemmas.Bool.{and_parts, and_from, and_cases, or_cases, or_parts, or_left, or_right, both_ways}
-use Rattle.quorums.specs.Sets.{Set, members, none, either, outside, all, part_of, any}
+use Rattle.std.specs.List.{list_any}
+use Rattle.quorums.specs.Sets.{Set, members, none, either, outside, all, part_of}
 use Rattle.quorums.specs.Lists.{contained, completed, covered}
 use Rattle.quorums.specs.Laws.{QuorumLaws}
 use Rattle.quorums.specs.declared.sets.ServerSet.{ServerSet}
@@ -39,21 +40,21 @@ all_map n a b h e = all_from n b (λ i l. h i l (all_at n a e i l))
 -- ---- some element
 
 module _ {A : Type 0} where
-  any_map : (p q : A → Bool) (xs : List A) → ((x : A) → p x ≡ true → q x ≡ true) → any p xs ≡ true → any q xs ≡ true
+  any_map : (p q : A → Bool) (xs : List A) → ((x : A) → p x ≡ true → q x ≡ true) → list_any p xs ≡ true → list_any q xs ≡ true
   any_map p q [] h e = e
   any_map p q (x ∷ xs) h e =
-      elim (or_cases (p x) (any p xs) e) [ inl k ↦ or_left (q x) (any q xs) (h x k) | inr k ↦ or_right (q x) (any q xs) (any_map p q xs h k) ]
+      elim (or_cases (p x) (list_any p xs) e) [ inl k ↦ or_left (q x) (list_any q xs) (h x k) | inr k ↦ or_right (q x) (list_any q xs) (any_map p q xs h k) ]
 
-  any_each : (p : A → Bool) (xs : List A) → ((x : A) → p x ≡ true) → 0 < length xs → any p xs ≡ true
+  any_each : (p : A → Bool) (xs : List A) → ((x : A) → p x ≡ true) → 0 < length xs → list_any p xs ≡ true
   any_each p [] h l = absurd (omega arith)
-  any_each p (x ∷ xs) h l = or_left (p x) (any p xs) (h x)
+  any_each p (x ∷ xs) h l = or_left (p x) (list_any p xs) (h x)
 
   -- one test holds of some element, another of none: so some element passes the first and not the second
-  any_but : (p q : A → Bool) (xs : List A) → any p xs ≡ true → any q xs ≡ false → (x : A) × (p x ≡ true) × (q x ≡ false)
+  any_but : (p q : A → Bool) (xs : List A) → list_any p xs ≡ true → list_any q xs ≡ false → (x : A) × (p x ≡ true) × (q x ≡ false)
   any_but p q [] e f = absurd (both_ways false refl e)
   any_but p q (x ∷ xs) e f =
-      let fs = or_parts (q x) (any q xs) f in
-      elim (or_cases (p x) (any p xs) e) [ inl h ↦ (x, h, fs.0) | inr h ↦ any_but p q xs h fs.1 ]
+      let fs = or_parts (q x) (list_any q xs) f in
+      elim (or_cases (p x) (list_any p xs) e) [ inl h ↦ (x, h, fs.0) | inr h ↦ any_but p q xs h fs.1 ]
 
 -- ---- one server
 
@@ -83,7 +84,7 @@ listed_laws n sets some few filled apart = record {
   larger_quorum = λ a b p. any_map (λ l. all n (either (members l) a)) (λ l. all n (either (members l) b)) sets
       (λ l. all_map n (either (members l) a) (either (members l) b) (λ i h. more (members l i) (a i) (b i) (p i h)));
   quorums_meet = λ a b f ea eb ef.
-      let one = any_but (λ l. all n (either (members l) a)) (λ x. any (λ y. completed n sets (either (members x) (members y))) sets) sets ea apart in
+      let one = any_but (λ l. all n (either (members l) a)) (λ x. list_any (λ y. completed n sets (either (members x) (members y))) sets) sets ea apart in
       let la = members one.0 in
       let two = any_but (λ l. all n (either (members l) b)) (λ y. completed n sets (either la (members y))) sets eb one.2 in
       let lb = members two.0 in

@@ -1,5 +1,5 @@
 -- Sets of servers by their members, and the set that a mask stands for.
-use Rattle.std.specs.Prelude.{ℕ, zero, suc, ◌+◌, ◌/◌, ◌%◌, Bool, true, false, cond, not, ◌&&◌, ◌||◌, List, [], ◌∷◌, ◌==◌}
+use Rattle.std.specs.Prelude.{◌≡◌, ◌<◌, ◌≤◌, min, ℕ, zero, suc, ◌+◌, ◌/◌, ◌%◌, Bool, true, false, cond, not, ◌&&◌, ◌||◌, ◌==◌, nat_lt}
 use Rattle.quorums.specs.declared.sets.ServerSet.{ServerSet}
 
 -- a set of servers: which servers are in it
@@ -21,9 +21,7 @@ none i = false
 
 -- the servers 0 .. n-1
 abbrev pub below : ℕ → Set
-below zero i = false
-below (suc n) zero = true
-below (suc n) (suc i) = below n i
+below n i = nat_lt i n
 
 -- the servers that are in both sets
 abbrev pub both : Set → Set → Set
@@ -36,6 +34,14 @@ either a b i = a i || b i
 -- the servers that are not in the set
 abbrev pub outside : Set → Set
 outside a i = not (a i)
+
+-- of the servers 0 .. n-1, and below 16, the set has those that the test holds of; it has no others
+abbrev pub Tested : (ℕ → Bool → Type 0) → ℕ → Set → Type 0
+Tested test n s = ((i : ℕ) → i < min n 16 → test i (s i)) × ((i : ℕ) → min n 16 ≤ i → s i ≡ false)
+
+-- of a server below n, the test can only say whether the set has it; the set has no server from n or 16 on
+abbrev pub Tells : (ℕ → Bool → Type 0) → ℕ → Set → Type 0
+Tells test n s = ((i : ℕ) (r : Bool) → i < n → test i r → r ≡ s i) × ((i : ℕ) → min n 16 ≤ i → s i ≡ false)
 
 -- how many of the servers 0 .. n-1 are in the set
 unfoldable pub tally : ℕ → Set → ℕ
@@ -51,7 +57,6 @@ all (suc n) s = s 0 && all n (λ i. s (suc i))
 abbrev pub part_of : ℕ → Set → Set → Bool
 part_of n a b = all n (either (outside a) b)
 
--- whether the test holds of some element
-abbrev pub any : {A : Type 0} → (A → Bool) → List A → Bool
-any p [] = false
-any p (x ∷ xs) = p x || any p xs
+-- no system has so many servers: none, or over 16
+abbrev pub refused_size : ℕ → Bool
+refused_size n = n == 0 || nat_lt 16 n

@@ -4,7 +4,7 @@ ghost use Rattle.quorums.specs.ByCount.{Opened, needed, threshold_size, threshol
 ghost use Rattle.quorums.specs.Counts.{threshold_laws};
 
 use crate::QuorumSystem;
-use crate::sets::ServerSet;
+use crate::sets::{ServerSet, is_refused_size};
 use crate::threshold::Threshold;
 use calls::Refusal;
 
@@ -12,7 +12,7 @@ impl Threshold {
     pub fn open(n: u8, f: u8) -> Result<Threshold, Refusal>
         ensures { Opened n f result }
     {
-        if n == 0 || n > 16 || f > 5 || 3 * f + 1 > n {
+        if is_refused_size(n) || f > 5 || 3 * f + 1 > n {
             return Err(Refusal::SystemSize);
         }
         Ok(Threshold { n, f })

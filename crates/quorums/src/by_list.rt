@@ -1,20 +1,21 @@
 // The listed system: quorums and fail-prone sets by a list of the largest fail-prone sets.
 ghost use Rattle.std.specs.Prelude.{◌≡◌, ◌≤◌, length, take};
-ghost use Rattle.quorums.specs.Sets.{members, either, all, any};
+ghost use Rattle.std.specs.List.{list_any};
+ghost use Rattle.quorums.specs.Sets.{members, either};
 ghost use Rattle.quorums.specs.Lists.{contained, completed, covered, past};
 ghost use Rattle.quorums.specs.ByList.{Opened, bad_list, sets_of, listed_size, listed_quorum, listed_fail_prone};
 ghost use Rattle.quorums.specs.Listings.{listed_laws};
 
 use crate::QuorumSystem;
-use crate::listed::Listed;
-use crate::sets::ServerSet;
+use crate::listed::{Listed, MOST_SETS};
+use crate::sets::{MOST_SERVERS, ServerSet, is_refused_size};
 use calls::Refusal;
 
 impl Listed {
     pub fn open(n: u8, sets: &[ServerSet]) -> Result<Listed, Refusal>
         ensures { Opened n sets.now result }
     {
-        if n == 0 || n > 16 {
+        if is_refused_size(n) {
             return Err(Refusal::SystemSize);
         }
         if is_bad_list(sets, n) {
@@ -61,108 +62,61 @@ impl QuorumSystem for Listed {
 }
 
 // The list in an array of fixed length.
-fn stored(sets: &[ServerSet]) -> [ServerSet; 128]
+fn stored(sets: &[ServerSet]) -> [ServerSet; MOST_SETS]
     requires { length sets.now ≤ 128 }
     ensures { take (length sets.now) result ≡ sets.now }
 {
-    let mut all = [ServerSet::empty(); 128];
+    let mut all = [ServerSet::empty(); MOST_SETS];
     all[..sets.len()].copy_from_slice(sets);
     all
 }
 
-// Whether the list is empty, too long, or has a server from n on.
+// Whether the list is empty, too long, or has a set with a server from n on.
 fn is_bad_list(sets: &[ServerSet], n: u8) -> bool
-    requires { n ≤ 16 }
     ensures { result ≡ bad_list n sets.now }
 {
-    sets.is_empty() || sets.len() > 128 || some_past(sets, n)
+    sets.is_empty() || sets.len() > MOST_SETS || some_past(sets, n)
 }
 
 // Whether some set has a server from n on.
 fn some_past(sets: &[ServerSet], n: u8) -> bool
-    requires { n ≤ 16 }
-    ensures { result ≡ any (λ s. past n (members s)) sets.now }
+    ensures { result ≡ list_any (λ s. past n (members s)) sets.now }
 {
-    for set in sets {
-        if is_past(*set, n) {
-            return true;
-        }
-    }
-    false
+    sets.iter().any(|set| is_past(*set, n))
 }
 
 // Whether the set has a server from n on.
 fn is_past(set: ServerSet, n: u8) -> bool
-    requires { n ≤ 16 }
     ensures { result ≡ past n (members set) }
 {
-    !set.is_part_of(ServerSet::first(n), 16)
+    !set.is_part_of(ServerSet::first(n), MOST_SERVERS)
 }
 
 // Whether the set is a part of some listed set.
 fn some_contains(sets: &[ServerSet], set: ServerSet, n: u8) -> bool
-    requires { n ≤ 16 }
     ensures { result ≡ contained n sets.now (members set) }
 {
-    for listed in sets {
-        if set.is_part_of(*listed, n) {
-            return true;
-        }
-    }
-    false
+    sets.iter().any(|listed| set.is_part_of(*listed, n))
 }
 
 // Whether some listed set and this set have all n servers together.
 fn some_completes(sets: &[ServerSet], set: ServerSet, n: u8) -> bool
-    requires { n ≤ 16 }
     ensures { result ≡ completed n sets.now (members set) }
 {
-    for listed in sets {
-        if completes(*listed, set, n) {
-            return true;
-        }
-    }
-    false
-}
-
-// Whether the two sets have all n servers together.
-fn completes(listed: ServerSet, set: ServerSet, n: u8) -> bool
-    requires { n ≤ 16 }
-    ensures { result ≡ all n (either (members listed) (members set)) }
-{
-    listed.union(set).covers(n)
+    sets.iter().any(|listed| listed.union(set).covers(n))
 }
 
 // Whether some three of the sets have all n servers together.
 fn three_cover(sets: &[ServerSet], n: u8) -> bool
-    requires { n ≤ 16 }
     ensures { result ≡ covered n sets.now }
 {
-    for set in sets {
-        if two_cover_with(sets, *set, n) {
-            return true;
-        }
-    }
-    false
+    sets.iter().any(|set| two_cover_with(sets, *set, n))
 }
 
 // Whether some two of the sets and the given one have all n servers together.
 fn two_cover_with(sets: &[ServerSet], given: ServerSet, n: u8) -> bool
-    requires { n ≤ 16 }
-    ensures { result ≡ any (λ b. completed n sets.now (either (members given) (members b))) sets.now }
+    ensures { result ≡ list_any (λ s. completed n sets.now (either (members given) (members s))) sets.now }
 {
-    for set in sets {
-        if one_covers_with(sets, given, *set, n) {
-            return true;
-        }
-    }
-    false
-}
-
-// Whether some one of the sets and the given two have all n servers together.
-fn one_covers_with(sets: &[ServerSet], a: ServerSet, b: ServerSet, n: u8) -> bool
-    requires { n ≤ 16 }
-    ensures { result ≡ completed n sets.now (either (members a) (members b)) }
-{
-    some_completes(sets, a.union(b), n)
+    sets.iter()
+        .any(|set| some_completes(sets, given.union(*set), n))
 }

@@ -3,13 +3,17 @@ ghost use Rattle.quorums.specs.Lists.{covered};
 
 use crate::sets::ServerSet;
 
+// So many sets of servers a system lists at most.
+pub const MOST_SETS: usize = 128;
+
 // n servers, and up to 128 sets of them: the servers of a set may all be faulty at once.
 // No three of the sets have all servers together.
 #[derive(Clone, Copy)]
 pub struct Listed {
     pub n: u8,
+    // Kept: a register's record is Copy, has no heap, and outlives the sets that it was opened with.
     pub count: usize,
-    pub sets: [ServerSet; 128],
+    pub sets: [ServerSet; MOST_SETS],
     ghost some: { 0 < n },
     ghost few: { n ≤ 16 },
     ghost room: { count ≤ 128 },

@@ -1,6 +1,16 @@
 // Sets of at most 16 servers.
-ghost use Rattle.std.specs.Prelude.{◌≡◌, ℕ, ◌-◌, ◌^◌, ◌<◌, ◌≤◌, ◌&&◌, ◌||◌, ◌==◌, nat_lt};
-ghost use Rattle.quorums.specs.Sets.{members, none, below, either, tally, all, part_of};
+ghost use Rattle.std.specs.Prelude.{◌≡◌, ℕ, ◌-◌, ◌^◌, ◌<◌, ◌≤◌, ◌&&◌, ◌||◌, ◌==◌, nat_lt, min};
+ghost use Rattle.quorums.specs.Sets.{Set, members, none, below, either, tally, all, part_of, refused_size, Tested, Tells};
+
+// So many servers a system has at most.
+pub const MOST_SERVERS: u8 = 16;
+
+// Whether no system has so many servers: none, or more than are allowed.
+pub fn is_refused_size(n: u8) -> bool
+    ensures { result ≡ refused_size n }
+{
+    n == 0 || n > MOST_SERVERS
+}
 
 // Server i is in the set where digit i of the mask, from the lowest, is 1.
 #[derive(Clone, Copy, PartialEq, Eq, Debug)]
@@ -20,7 +30,7 @@ impl ServerSet {
     pub fn with(self, server: u8) -> ServerSet
         ensures { (i : ℕ) → members result i ≡ (members self i || (i == server && nat_lt server 16)) }
     {
-        if server < 16 {
+        if server < MOST_SERVERS {
             self.union(ServerSet::only(server))
         } else {
             self
@@ -30,17 +40,33 @@ impl ServerSet {
     pub fn contains(self, server: u8) -> bool
         ensures { result ≡ members self server }
     {
-        self.lowered(server).mask % 2 == 1
+        self.mask
+            .checked_shr(server.into())
+            .is_some_and(|rest| rest % 2 == 1)
     }
 
-    // The first n servers.
+    // Those of the first n servers of which the test holds.
+    pub fn of<F: Fn(u8) -> bool>(n: u8, holds: F) -> ServerSet
+        requires { (i : ℕ) → i < n → F.pre holds i }
+        ensures tested { Tested (F.post holds) n (members result) }
+        ensures exact { (p : Set) → Tells (F.post holds) n p → members result ≡ p }
+    {
+        let mut set = ServerSet::empty();
+        for server in 0..n {
+            if holds(server) {
+                set = set.with(server);
+            }
+        }
+        set
+    }
+
+    // The first n servers, or all 16 where n is more.
     pub(crate) fn first(n: u8) -> ServerSet
-        requires { n ≤ 16 }
-        ensures mask { result.mask ≡ 2 ^ n - 1 }
-        ensures members { members result ≡ below n }
+        ensures mask { result.mask ≡ 2 ^ min n 16 - 1 }
+        ensures members { members result ≡ below (min n 16) }
     {
         ServerSet {
-            mask: ((1u32 << n) - 1) as u16,
+            mask: ((1u32 << n.min(MOST_SERVERS)) - 1) as u16,
         }
     }
 
@@ -50,19 +76,6 @@ impl ServerSet {
         ensures { (i : ℕ) → members result i ≡ (i == server) }
     {
         ServerSet { mask: 1 << server }
-    }
-
-    // The servers from `by` on, with the number of each less by `by`.
-    fn lowered(self, by: u8) -> ServerSet
-        ensures { members result 0 ≡ members self by }
-    {
-        if by < 16 {
-            ServerSet {
-                mask: self.mask >> by,
-            }
-        } else {
-            ServerSet { mask: 0 }
-        }
     }
 
     pub(crate) fn union(self, other: ServerSet) -> ServerSet
@@ -76,7 +89,6 @@ impl ServerSet {
 
     // How many of the first n servers are in the set.
     pub(crate) fn count(self, n: u8) -> u8
-        requires { n ≤ 16 }
         ensures { result ≡ tally n (members self) }
     {
         (self.mask & ServerSet::first(n).mask).count_ones() as u8
@@ -84,7 +96,6 @@ impl ServerSet {
 
     // Whether all of the first n servers are in the set.
     pub(crate) fn covers(self, n: u8) -> bool
-        requires { n ≤ 16 }
         ensures { result ≡ all n (members self) }
     {
         self.count(n) == n
@@ -92,7 +103,6 @@ impl ServerSet {
 
     // Whether those of the first n servers that are in this set are all in the other.
     pub(crate) fn is_part_of(self, other: ServerSet, n: u8) -> bool
-        requires { n ≤ 16 }
         ensures { result ≡ part_of n (members self) (members other) }
     {
         self.union(other).count(n) == other.count(n)
