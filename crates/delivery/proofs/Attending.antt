@@ -12,7 +12,7 @@ use Rattle.calls.specs.declared.Refusal.TheVariants.{Memory, NetworkFull}
 use Rattle.calls.proofs.Checks.{passes_first}
 use Rattle.network.specs.declared.message.Kind.{Kind}
 use Rattle.network.specs.declared.message.Message.{Message}
-use Rattle.reading.specs.declared.reports.Report.{Report}
+use Rattle.reading.specs.Reports.{Report}
 use Rattle.reading.specs.Readings.{updated, unread}
 use Rattle.reading.specs.Reports.{blank, view}
 use Rattle.reading.specs.Hearing.{enough_memory}
@@ -22,7 +22,7 @@ use Rattle.protocol.specs.Clients.{takes}
 use Rattle.client.specs.Showing.{client_of}
 use Rattle.client.specs.Taking.{hears_value, expected, TakenIn}
 use Rattle.client.specs.declared.state.Client.{Client}
-use Rattle.client.specs.declared.state.Dispatch.{Dispatch}
+use Rattle.client.specs.declared.state.Broadcast.{Broadcast}
 use Rattle.delivery.specs.Memory.{part, new_client}
 use Rattle.delivery.specs.Parts.{clients_in, client_takes, ClientsKept, Attended}
 use Rattle.delivery.proofs.Parts.{part_own, part_other, part_kept, length-put_mid}
@@ -31,7 +31,7 @@ module _ {S V : Type 0} (K : Setting S V) (m : ℕ) (cs : List (Client S V)) (ps
     (inside : c * (K.rules.n * (K.rules.n + 1)) + K.rules.n * (K.rules.n + 1) ≤ length ps) where
   -- what a client of these reports is
   abbrev showing : Client S V → List (Report S V) → protocol.Client S V
-  showing x p = client_of x (view K.rules.above (blank K.lowest K.initial) K.rules.n p)
+  showing x p = client_of x (view K.rules.above (K.lowest, K.initial) K.rules.n p)
 
   -- the client and its reports, as the protocol sees them
   pub client_at : clients_in K m cs ps c ≡ showing (get_or cs c (new_client K.lowest)) (part (K.rules.n * (K.rules.n + 1)) ps c)
@@ -79,7 +79,7 @@ module _ {S V : Type 0} (K : Setting S V) (m : ℕ) (cs : List (Client S V)) (ps
   known = part (K.rules.n * (K.rules.n + 1)) ps message.client
 
   -- what they make of the message
-  takes_as : expected K (blank K.lowest K.initial) own known message kind ≡ client_takes K m cs ps message kind
+  takes_as : expected K (K.lowest, K.initial) own known message kind ≡ client_takes K m cs ps message kind
   takes_as = ap (λ x. takes K kind x message) (sym (client_at K m cs ps message.client within there inside))
 
   -- the reports suffice for the message
@@ -105,12 +105,12 @@ module _ {S V : Type 0} (K : Setting S V) (m : ℕ) (cs : List (Client S V)) (ps
       }
 
   -- what a client's call promises of its part, it promises of the whole
-  pub attended : (r : Result (Answer S V × Dispatch S V) Refusal) (x' : Client S V) (p' : List (Report S V)) → length p' ≡ K.rules.n * (K.rules.n + 1)
-      → TakenIn K (blank K.lowest K.initial) own known message kind room r x' p'
+  pub attended : (r : Result (Answer S V × Option (Broadcast S V)) Refusal) (x' : Client S V) (p' : List (Report S V)) → length p' ≡ K.rules.n * (K.rules.n + 1)
+      → TakenIn K (K.lowest, K.initial) own known message kind room r x' p'
       → Attended K m cs ps message kind room r (set cs message.client x') (put_mid (message.client * (K.rules.n * (K.rules.n + 1))) (K.rules.n * (K.rules.n + 1)) ps p')
   attended (Ok given) x' p' same taken =
       let size = K.rules.n * (K.rules.n + 1) in
-      let e = expected K (blank K.lowest K.initial) own known message kind in
+      let e = expected K (K.lowest, K.initial) own known message kind in
       let full = passes_first (not (enough_memory K.rules.n known message.server)) Memory ((ltb room (length e.sent), NetworkFull) ∷ []) taken.0 in
       let fit = passes_first (ltb room (length e.sent)) NetworkFull [] full.1 in
       let few = ltb-false room (length e.sent) fit.0 in
@@ -124,7 +124,7 @@ module _ {S V : Type 0} (K : Setting S V) (m : ℕ) (cs : List (Client S V)) (ps
         sent_is = ap (λ o. o.sent) taken.1 ∙ ap (λ o. o.sent) takes_as;
       }
   attended (Err refusal) x' p' same taken =
-      let e = expected K (blank K.lowest K.initial) own known message kind in
+      let e = expected K (K.lowest, K.initial) own known message kind in
       let only : first_failed ((false, Memory) ∷ ((ltb room (length e.sent), NetworkFull) ∷ [])) ≡ Some refusal =
       ap (λ t. first_failed ((t, Memory) ∷ ((ltb room (length e.sent), NetworkFull) ∷ []))) (sym enough) ∙ taken.0 in
       let why = second_decides (ltb room (length e.sent)) refusal only in

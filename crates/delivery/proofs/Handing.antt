@@ -15,7 +15,7 @@ use Rattle.network.specs.declared.message.Message.{Message}
 use Rattle.network.specs.declared.queue.Network.{Network}
 use Rattle.quorums.specs.Sets.{members}
 use Rattle.quorums.specs.declared.sets.ServerSet.{ServerSet}
-use Rattle.reading.specs.declared.reports.Report.{Report}
+use Rattle.reading.specs.Reports.{Report}
 use Rattle.reading.specs.Readings.{Reading, unread}
 use Rattle.reading.specs.Reports.{blank, view}
 use Rattle.server.specs.declared.state.Listener.{Listener}
@@ -175,7 +175,7 @@ module _ {S V : Type 0} (K : Setting S V) (faulty : ServerSet) (ss : List (Serve
       own = get_or cs message.client (new_client K.lowest)
 
       view_of : Reading S V
-      view_of = view K.rules.above (blank K.lowest K.initial) K.rules.n (part (report_count K) ps message.client)
+      view_of = view K.rules.above (K.lowest, K.initial) K.rules.n (part (report_count K) ps message.client)
 
       heard_by : message.client < K.client_count → kind_of message.kind ≡ Some kind → hears (before.clients message.client) message ≡ false → hears_value own message kind ≡ false
       heard_by there named deaf =

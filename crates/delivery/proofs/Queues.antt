@@ -14,9 +14,8 @@ use Rattle.network.proofs.Sending.{room_fits}
 use Rattle.protocol.specs.Protocol.{lift, lifted}
 use Rattle.client.specs.Showing.{messages_of}
 use Rattle.client.specs.Taking.{sending}
-use Rattle.client.specs.Sending.{send_checks, Dispatched}
-use Rattle.client.specs.declared.state.Dispatch.{Dispatch}
-use Rattle.client.specs.declared.state.Dispatch.TheVariants.{Nothing, ToAll}
+use Rattle.client.specs.Sending.{Dispatched}
+use Rattle.client.specs.declared.state.Broadcast.{Broadcast}
 use Rattle.client.proofs.Weighing.{length-to_all}
 use Rattle.protocol.specs.Clients.{from_client}
 use Rattle.server.specs.Receiving.{receive_checks}
@@ -117,10 +116,10 @@ module _ {M : Type 0} (net : Network) (memory : List M) (place : ℕ) (fit : fit
   pub restored_as : restored net (length memory) ≡ put_down net
   restored_as = cond-true (fits net (length memory)) (put_down net) net fit
 
--- how many messages a dispatch is
-pub length-messages : {S V : Type 0} (n client : ℕ) (x : Dispatch S V) → length (messages_of n client x) ≡ sending n x
-length-messages n client Nothing = refl
-length-messages n client (ToAll kind number timestamp value) = length-to_all n (λ server. from_client client server kind number timestamp value)
+-- how many messages a broadcast is, if there is one
+pub length-messages : {S V : Type 0} (n client : ℕ) (x : Option (Broadcast S V)) → length (messages_of n client x) ≡ sending n x
+length-messages n client None = refl
+length-messages n client (Some x) = length-to_all n (λ server. from_client client server x.kind x.number x.timestamp x.value)
 
 -- with room, the checks of sending pass
 send_passes : (net : Network) (room more : ℕ) → Room net room more → first_failed (send_checks net room more) ≡ None
@@ -130,12 +129,21 @@ send_passes net room more r =
     ∙ ap (λ o. cond (is_some o) (Some TokenOut) (cond (ltb (net.capacity - net.len) more) (Some NetworkFull) None)) r.none_lifted
     ∙ ap (λ t. cond t (Some NetworkFull) None) full
 
--- with room, a dispatch is sent
-pub dispatched_sent : {S V : Type 0} (n client : ℕ) (x : Dispatch S V) (net net' : Network) (memory memory' : List (Message S V)) (r : Result Unit Refusal)
-    → Room net (length memory) (sending n x) → Dispatched n client x net memory r net' memory' → Sent net memory (messages_of n client x) net' memory'
+-- where nothing is sent, all stays
+pub sent_none : {M : Type 0} (net : Network) (memory : List M) → Sent net memory [] net memory
+sent_none net memory = record {
+  record_after = ap (λ k. record { capacity = net.capacity; len = k; lifted = net.lifted }) (omega arith);
+  queue_after = sym (append-nil (queue net memory));
+  rest_after = refl;
+  length_after = refl;
+}
+
+-- with room, a broadcast is sent
+pub dispatched_sent : {S V : Type 0} (n client : ℕ) (x : Broadcast S V) (net net' : Network) (memory memory' : List (Message S V)) (r : Result Unit Refusal)
+    → Room net (length memory) n → Dispatched n client x net memory r net' memory' → Sent net memory (messages_of n client (Some x)) net' memory'
 dispatched_sent n client x net net' memory memory' (Ok u) room d = d.1
 dispatched_sent n client x net net' memory memory' (Err e) room d =
-    let clash : ◌≡◌ {A = Option Refusal} None (Some e) = sym (send_passes net (length memory) (sending n x) room) ∙ d.0 in
+    let clash : ◌≡◌ {A = Option Refusal} None (Some e) = sym (send_passes net (length memory) n room) ∙ d.0 in
     let z : ◌≡◌ {A = ℕ} 0 1 = cc in
     absurd (omega arith)
 

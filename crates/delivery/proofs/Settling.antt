@@ -9,26 +9,27 @@ use Rattle.network.specs.Queues.{fits, settled, closed_up, restored}
 use Rattle.network.specs.declared.message.Kind.{Kind}
 use Rattle.network.specs.declared.message.Message.{Message}
 use Rattle.network.specs.declared.queue.Network.{Network}
-use Rattle.reading.specs.declared.reports.Report.{Report}
+use Rattle.reading.specs.Reports.{Report}
 use Rattle.server.specs.declared.state.Listener.{Listener}
 use Rattle.server.specs.declared.state.Server.{Server}
 use Rattle.protocol.specs.Settings.{Setting}
 use Rattle.client.specs.Showing.{messages_of}
 use Rattle.client.specs.Sending.{Dispatched}
 use Rattle.client.specs.declared.state.Client.{Client}
-use Rattle.client.specs.declared.state.Dispatch.{Dispatch}
+use Rattle.client.specs.declared.state.Broadcast.{Broadcast}
 use Rattle.delivery.specs.Parts.{server_reacts, ServersKept, Served, client_takes, ClientsKept, AttendedBy}
 use Rattle.delivery.specs.Handing.{room_without, Replaced, ServedOn, ToServer, ToClient}
 use Rattle.delivery.proofs.Queues.{room_settled, replaced, restored_as, length-messages, dispatched_sent, receive_passes}
 
 -- settled, and followed by what goes to the servers
-pub sent_on : {S V : Type 0} (n client : ℕ) (x : Dispatch S V) (net net' net'' : Network) (memory memory' memory'' : List (Message S V)) (r : Result Unit Refusal) (place : ℕ)
-    → fits net (length memory) ≡ true → net' ≡ settled net (length memory) → memory' ≡ closed_up net memory → Dispatched n client x net' memory' r net'' memory''
+pub sent_on : {S V : Type 0} (n client : ℕ) (x : Option (Broadcast S V)) (net net' net'' : Network) (memory memory' memory'' : List (Message S V)) (place : ℕ)
+    → fits net (length memory) ≡ true → net' ≡ settled net (length memory) → memory' ≡ closed_up net memory
+    → (Room net' (length memory') (sending n x) → Sent net' memory' (messages_of n client x) net'' memory'')
     → net.lifted ≡ Some place → length (messages_of n client x) ≤ room_without net → Replaced net memory place (messages_of n client x) net'' memory''
-sent_on n client x net net' net'' memory memory' memory'' r place fit net_is memory_is sent is small =
+sent_on n client x net net' net'' memory memory' memory'' place fit net_is memory_is sent is small =
     let counted = length-messages n client x in
-    let room = room_settled net memory place fit is net' memory' _ net_is memory_is (omega (arith, counted, small)) in
-    replaced net memory place fit is net' net'' memory' memory'' (messages_of n client x) net_is memory_is (dispatched_sent n client x net' net'' memory' memory'' r room sent)
+    let room = room_settled net memory place fit is net' memory' (sending n x) net_is memory_is (omega (arith, counted, small)) in
+    replaced net memory place fit is net' net'' memory' memory'' (messages_of n client x) net_is memory_is (sent room)
 
 module _ {S V : Type 0} (above : S → S → Bool) (lowest : S) (initial : V) (n m : ℕ) (faulty : Bool) (ss : List (Server S V)) (ls : List (Listener S)) (net : Network) (memory : List (Message S V)) (message : Message S V)
     (fit : fits net (length memory) ≡ true) where
@@ -80,7 +81,7 @@ module _ {S V : Type 0} (K : Setting S V) (m : ℕ) (cs : List (Client S V)) (ps
   }
 
   -- within the room: taken
-  pub client_fits : (room : ℕ) (given : Answer S V × Dispatch S V) (cs' : List (Client S V)) (ps' : List (Report S V)) (net' : Network) (memory' : List (Message S V)) → room ≡ room_without net
+  pub client_fits : (room : ℕ) (given : Answer S V × Option (Broadcast S V)) (cs' : List (Client S V)) (ps' : List (Report S V)) (net' : Network) (memory' : List (Message S V)) → room ≡ room_without net
       → AttendedBy K m cs ps message kind room given cs' ps'
       → ClientsKept K m cs ps message kind cs' ps'
       → (length (messages_of K.rules.n message.client given.1) ≤ room_without net → Replaced net memory place (messages_of K.rules.n message.client given.1) net' memory')

@@ -8,7 +8,7 @@ use Rattle.network.specs.Kinds.{byte_of}
 use Rattle.network.specs.declared.message.Kind.TheVariants.{Value}
 use Rattle.network.specs.declared.message.Message.{Message}
 use Rattle.quorums.specs.declared.sets.ServerSet.{ServerSet}
-use Rattle.reading.specs.declared.reports.Report.{Report}
+use Rattle.reading.specs.Reports.{Report}
 use Rattle.protocol.specs.Settings.{Setting}
 use Rattle.protocol.specs.Clients as protocol
 use Rattle.protocol.specs.Protocol.{State, Reply, lift, delivered}

@@ -10,7 +10,7 @@ use Rattle.network.specs.declared.message.Kind.{Kind}
 use Rattle.network.specs.declared.message.Message.{Message}
 use Rattle.network.specs.declared.queue.Network.{Network}
 use Rattle.quorums.specs.declared.sets.ServerSet.{ServerSet}
-use Rattle.reading.specs.declared.reports.Report.{Report}
+use Rattle.reading.specs.Reports.{Report}
 use Rattle.server.specs.declared.state.Listener.{Listener}
 use Rattle.server.specs.declared.state.Server.{Server}
 use Rattle.protocol.specs.Settings.{Setting}

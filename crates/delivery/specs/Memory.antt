@@ -3,7 +3,7 @@ use Rattle.std.specs.Prelude.{◌≡◌, ℕ, ◌+◌, ◌*◌, Bool, cond, List
 use Rattle.network.specs.declared.message.Message.{Message}
 use Rattle.quorums.specs.Sets.{members}
 use Rattle.quorums.specs.declared.sets.ServerSet.{ServerSet}
-use Rattle.reading.specs.declared.reports.Report.{Report}
+use Rattle.reading.specs.Reports.{Report}
 use Rattle.reading.specs.Readings.{unread}
 use Rattle.reading.specs.Reports.{blank, view}
 use Rattle.server.specs.Serving.{ServerState}
@@ -41,7 +41,7 @@ module _ {S V : Type 0} (above : S → S → Bool) (lowest : S) (initial : V) (n
   -- each of m clients, with what it knows of n servers; clients from m on are as at first
   abbrev pub clients_of : List (Client S V) → List (Report S V) → ℕ → protocol.Client S V
   clients_of clients reports c =
-      cond (nat_lt c m) (client_of (slice_index_or clients c (new_client lowest)) (view above (blank lowest initial) n (part (n * (n + 1)) reports c)))
+      cond (nat_lt c m) (client_of (slice_index_or clients c (new_client lowest)) (view above (lowest, initial) n (part (n * (n + 1)) reports c)))
       (client_of (new_client lowest) (unread lowest initial))
 
 -- the memory that is lent to a register, whole

@@ -13,13 +13,13 @@ use Rattle.server.specs.Serving.{Reaction, reaction}
 use Rattle.server.specs.Receiving.{receive_checks}
 use Rattle.server.specs.declared.state.Listener.{Listener}
 use Rattle.server.specs.declared.state.Server.{Server}
-use Rattle.reading.specs.declared.reports.Report.{Report}
+use Rattle.reading.specs.Reports.{Report}
 use Rattle.protocol.specs.Settings.{Setting}
 use Rattle.protocol.specs.Clients as protocol
 use Rattle.client.specs.Showing.{messages_of}
 use Rattle.client.specs.Taking.{hears_value}
 use Rattle.client.specs.declared.state.Client.{Client}
-use Rattle.client.specs.declared.state.Dispatch.{Dispatch}
+use Rattle.client.specs.declared.state.Broadcast.{Broadcast}
 use Rattle.delivery.specs.Memory.{new_client, servers_of, clients_of}
 use Rattle.delivery.specs.Answering.{OnlyOf}
 
@@ -88,7 +88,7 @@ module _ {S V : Type 0} (K : Setting S V) (m : ℕ) where
     pub answer_is : answer ≡ (client_takes clients reports message kind).answer
 
   -- attended: that client and its reports are as the protocol says, the others as they were
-  pub record AttendedBy (clients : List (Client S V)) (reports : List (Report S V)) (message : Message S V) (kind : Kind) (room : ℕ) (given : Answer S V × Dispatch S V)
+  pub record AttendedBy (clients : List (Client S V)) (reports : List (Report S V)) (message : Message S V) (kind : Kind) (room : ℕ) (given : Answer S V × Option (Broadcast S V))
       (clients' : List (Client S V)) (reports' : List (Report S V)) : Type 0 where
     pub fits : length (client_takes clients reports message kind).sent ≤ room
     pub clients_after : clients_in clients' reports' ≡ updated (clients_in clients reports) message.client (client_takes clients reports message kind).after
@@ -96,7 +96,7 @@ module _ {S V : Type 0} (K : Setting S V) (m : ℕ) where
     pub sent_is : messages_of K.rules.n message.client given.1 ≡ (client_takes clients reports message kind).sent
 
   -- a message at its client, over the memory of all clients
-  abbrev pub Attended : List (Client S V) → List (Report S V) → Message S V → Kind → ℕ → Result (Answer S V × Dispatch S V) Refusal → List (Client S V) → List (Report S V) → Type 0
+  abbrev pub Attended : List (Client S V) → List (Report S V) → Message S V → Kind → ℕ → Result (Answer S V × Option (Broadcast S V)) Refusal → List (Client S V) → List (Report S V) → Type 0
   Attended clients reports message kind room (Ok given) clients' reports' = AttendedBy clients reports message kind room given clients' reports'
   Attended clients reports message kind room (Err e) clients' reports' =
       (e ≡ NetworkFull) × (room < length (client_takes clients reports message kind).sent) × (clients' ≡ clients) × (reports' ≡ reports)

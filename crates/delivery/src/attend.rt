@@ -5,7 +5,7 @@ ghost use Rattle.protocol.specs.Settings.{setting};
 ghost use Rattle.delivery.specs.Parts.{ClientsKept, Attended};
 
 use calls::{Answer, Refusal};
-use client::state::{Client, Dispatch};
+use client::state::{Broadcast, Client};
 use network::message::{Kind, Message};
 use quorums::QuorumSystem;
 use reading::reports::{Report, entries_for};
@@ -20,7 +20,7 @@ pub(crate) fn attend<Q: QuorumSystem, S: Timestamp, V: Value>(
     message: Message<S, V>,
     kind: Kind,
     room: usize,
-) -> Result<(Answer<S, V>, Dispatch<S, V>), Refusal>
+) -> Result<(Answer<S, V>, Option<Broadcast<S, V>>), Refusal>
     requires client { message.client < length clients.old }
     requires server { message.server < Q.size system.now }
     requires part { message.client * (Q.size system.now * (Q.size system.now + 1)) + Q.size system.now * (Q.size system.now + 1) ≤ length reports.old }

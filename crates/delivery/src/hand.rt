@@ -10,7 +10,7 @@ ghost use Rattle.delivery.specs.Handing.{room_without, Replaced, ServedOn, ToSer
 use crate::attend::attend;
 use crate::serve::{count_replies, serve};
 use calls::{Answer, Refusal};
-use client::state::{Client, Dispatch};
+use client::state::{Broadcast, Client};
 use network::message::{Kind, Message};
 use network::queue::{Network, Token};
 use quorums::QuorumSystem;
@@ -47,15 +47,17 @@ fn settle_and_send<S: Timestamp, V: Value>(
     network: &mut Network,
     messages: &mut [Message<S, V>],
     token: Token,
-    dispatch: Dispatch<S, V>,
+    broadcast: Option<Broadcast<S, V>>,
     n: u8,
     client: u8,
 )
     requires fits { fits network.old (length messages.old) ≡ true }
-    ensures { (place : ℕ) → network.old.lifted ≡ Some place → length (messages_of n client dispatch) ≤ room_without network.old → Replaced network.old messages.old place (messages_of n client dispatch) network.new messages.new }
+    ensures { (place : ℕ) → network.old.lifted ≡ Some place → length (messages_of n client broadcast) ≤ room_without network.old → Replaced network.old messages.old place (messages_of n client broadcast) network.new messages.new }
 {
     network.settle(messages, token);
-    let _ = dispatch.send(network, messages, n, client);
+    if let Some(broadcast) = broadcast {
+        let _ = broadcast.send(network, messages, n, client);
+    }
 }
 
 // Settles the lifted message, and lets its server take it.

@@ -7,7 +7,7 @@ use Rattle.calls.specs.Refusals.{first_failed}
 use Rattle.calls.specs.declared.Answer.{Answer}
 use Rattle.calls.specs.declared.Refusal.{Refusal}
 use Rattle.calls.specs.declared.Refusal.TheVariants.{OperationOpen, NumbersUsedUp, NetworkFull}
-use Rattle.reading.specs.declared.reports.Report.{Report}
+use Rattle.reading.specs.Reports.{Report}
 use Rattle.reading.specs.Readings.{Reading, updated}
 use Rattle.reading.specs.Reports.{blank, view}
 use Rattle.protocol.specs.Settings.{Setting, setting}
@@ -17,7 +17,7 @@ use Rattle.client.specs.Taking.{is_resting, begin_refusal, BegunWrite, BegunRead
 use Rattle.client.specs.declared.state.Client.{Client}
 use Rattle.client.specs.declared.state.Phase.{Phase}
 use Rattle.client.specs.declared.state.Phase.TheVariants as phase
-use Rattle.client.specs.declared.state.Dispatch.{Dispatch}
+use Rattle.client.specs.declared.state.Broadcast.{Broadcast}
 use Rattle.delivery.specs.Memory.{part, new_client}
 use Rattle.delivery.specs.Parts.{clients_in}
 use Rattle.delivery.proofs.Parts.{part_own, part_kept}
@@ -45,7 +45,7 @@ module _ {S V : Type 0} (K : Setting S V) (cs : List (Client S V)) (ps : List (R
   known = part (K.rules.n * (K.rules.n + 1)) ps c
 
   abbrev shows : List (Report S V) → Reading S V
-  shows p = view K.rules.above (blank K.lowest K.initial) K.rules.n p
+  shows p = view K.rules.above (K.lowest, K.initial) K.rules.n p
 
   abbrev at_first : protocol.Client S V
   at_first = clients_in K K.client_count cs ps c
@@ -59,14 +59,14 @@ module _ {S V : Type 0} (K : Setting S V) (cs : List (Client S V)) (ps : List (R
   shown_as = sym (client_at K K.client_count cs ps c within there inside)
 
   -- the client's own checks
-  refuses_as : begin_refusal bare (blank K.lowest K.initial) own room ≡ client_refuses K at_first room
+  refuses_as : begin_refusal bare (K.lowest, K.initial) own room ≡ client_refuses K at_first room
   refuses_as =
       ap (λ t. first_failed ((not t, OperationOpen) ∷ ((leb 4294967295 own.number, NumbersUsedUp) ∷ ((ltb room K.rules.n, NetworkFull) ∷ [])))) (rests_idle own.phase (shows known))
       ∙ ap (λ x. client_refuses K x room) shown_as
 
   -- a write begins
-  pub begun_write_at : (v : V) (r : Result (Answer S V × Dispatch S V) Refusal) (x' : Client S V)
-      → BegunWrite bare (blank K.lowest K.initial) own c v room r x'
+  pub begun_write_at : (v : V) (r : Result (Answer S V × Option (Broadcast S V)) Refusal) (x' : Client S V)
+      → BegunWrite bare (K.lowest, K.initial) own c v room r x'
       → BegunAt K cs ps c (protocol.begins_write K c at_first v) room r (set cs c x') ps
   begun_write_at v (Ok given) x' begun =
       let out : outcome_of K.rules.n c (record { client = x'; answer = given.0; dispatch = given.1 }) (shows known) ≡ protocol.begins_write K c at_first v =
@@ -89,8 +89,8 @@ module _ {S V : Type 0} (K : Setting S V) (cs : List (Client S V)) (ps : List (R
   )
 
   -- a read begins
-  pub begun_read_at : (r : Result (Answer S V × Dispatch S V) Refusal) (x' : Client S V) (p' : List (Report S V)) → length p' ≡ K.rules.n * (K.rules.n + 1)
-      → BegunRead bare (blank K.lowest K.initial) own known c room r x' p'
+  pub begun_read_at : (r : Result (Answer S V × Option (Broadcast S V)) Refusal) (x' : Client S V) (p' : List (Report S V)) → length p' ≡ K.rules.n * (K.rules.n + 1)
+      → BegunRead bare (K.lowest, K.initial) own known c room r x' p'
       → BegunAt K cs ps c (protocol.begins_read K c at_first) room r (set cs c x') (put_mid (c * (K.rules.n * (K.rules.n + 1))) (K.rules.n * (K.rules.n + 1)) ps p')
       × ReadReports K c ps r (put_mid (c * (K.rules.n * (K.rules.n + 1))) (K.rules.n * (K.rules.n + 1)) ps p')
   begun_read_at (Ok given) x' p' long begun =
@@ -112,7 +112,7 @@ module _ {S V : Type 0} (K : Setting S V) (cs : List (Client S V)) (ps : List (R
             before = take-put_mid_below (c * size) size ps p' (c * size) (omega arith) (omega arith);
             behind = drop-put_mid (c * size) size ps p' (c * size + size) (omega arith) (omega arith) long;
           };
-          own = part_own size ps p' c inside long ∙ begun.2 ∙ ap (λ k. replicate k (blank K.lowest K.initial)) known_long;
+          own = part_own size ps p' c inside long ∙ begun.2 ∙ ap (λ k. replicate k (K.lowest, K.initial)) known_long;
         },
       )
   begun_read_at (Err e) x' p' long begun =

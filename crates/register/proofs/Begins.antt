@@ -12,14 +12,14 @@ use Rattle.network.specs.Queues.{Room, Sent}
 use Rattle.network.specs.declared.message.Message.{Message}
 use Rattle.network.proofs.Sending.{drop_later}
 use Rattle.quorums.specs.Sets.{members}
-use Rattle.reading.specs.declared.reports.Report.{Report}
+use Rattle.reading.specs.Reports.{Report}
 use Rattle.protocol.specs.Settings.{Setting}
 use Rattle.protocol.specs.Clients as protocol
 use Rattle.protocol.specs.Protocol.{begin_checks, begin, by_outcome, unless}
 use Rattle.client.specs.Showing.{messages_of}
 use Rattle.client.specs.Taking.{sending}
 use Rattle.client.specs.declared.state.Client.{Client}
-use Rattle.client.specs.declared.state.Dispatch.{Dispatch}
+use Rattle.client.specs.declared.state.Broadcast.{Broadcast}
 use Rattle.client.specs.declared.state.Dispatch.TheVariants.{Nothing, ToAll}
 use Rattle.client.proofs.Weighing.{length-messages}
 use Rattle.delivery.specs.Memory.{Lent, lent, report_count, enough}
@@ -31,7 +31,7 @@ use Rattle.register.proofs.Enough.{parts, still_enough}
 use Rattle.register.proofs.Replies.{accepted, refusing}
 
 -- at most one message goes to each server
-sending_few : {S V : Type 0} (n : ℕ) (d : Dispatch S V) → sending n d ≤ n
+sending_few : {S V : Type 0} (n : ℕ) (d : Option (Broadcast S V)) → sending n d ≤ n
 sending_few n Nothing = omega arith
 sending_few n (ToAll kind number timestamp value) = omega arith
 
@@ -73,7 +73,7 @@ module _ {Q S V : Type 0} (K : Setting S V) (g : Register Q) (x : Lent S V) (muc
         (subst (λ l. P (Some e) l ps) (sym same-clients) (subst (λ q. P (Some e) x.clients q) (sym same-reports) (refusing K g x e much)))
 
     -- there is room for what a client sends
-    pub begin_room : client_refuses K client (K.capacity - g.len) ≡ None → (d : Dispatch S V) → g.capacity ≡ K.capacity → Room (network_of g) (length x.messages) (sending K.rules.n d)
+    pub begin_room : client_refuses K client (K.capacity - g.len) ≡ None → (d : Option (Broadcast S V)) → g.capacity ≡ K.capacity → Room (network_of g) (length x.messages) (sending K.rules.n d)
     begin_room is d same =
         let p = parts K g.len x much in
         let a = passes_first (not (protocol.is_idle client.phase)) OperationOpen ((leb 4294967295 client.number, NumbersUsedUp) ∷ ((ltb (K.capacity - g.len) K.rules.n, NetworkFull) ∷ [])) is in
@@ -92,7 +92,7 @@ module _ {Q S V : Type 0} (K : Setting S V) (g : Register Q) (x : Lent S V) (muc
 
     -- the operation begins
     pub begun : (k : ℕ) → o.answer ≡ Begun c k → client_refuses K client (K.capacity - g.len) ≡ None
-        → (given : Answer S V × Dispatch S V) → BegunBy K x.clients x.reports c o given cs ps
+        → (given : Answer S V × Option (Broadcast S V)) → BegunBy K x.clients x.reports c o given cs ps
         → (g' : Register Q) (ms : List (Message S V)) → g.capacity ≡ K.capacity → g' ≡ with_queue g g'.len g.faulty
         → Sent (network_of g) x.messages (messages_of K.rules.n c given.1) (network_of g') ms
         → length cs ≡ length x.clients → length ps ≡ length x.reports

@@ -7,7 +7,7 @@ use Rattle.server.specs.Serving.{silent}
 use Rattle.server.specs.Receiving.{listener_in, state_of}
 use Rattle.server.specs.declared.state.Listener.{Listener}
 use Rattle.server.specs.declared.state.Server.{Server}
-use Rattle.reading.specs.declared.reports.Report.{Report}
+use Rattle.reading.specs.Reports.{Report}
 use Rattle.reading.specs.Readings.{unread}
 use Rattle.reading.specs.Reports.{blank, view}
 use Rattle.protocol.specs.Clients as protocol
@@ -89,11 +89,11 @@ module _ {S V : Type 0} (above : S → S → Bool) (lowest : S) (initial : V) (n
       at : (c : ℕ) → clients_of above lowest initial n m (replicate m (new_client lowest) ++ others) reports c ≡ record { number = 0; last = lowest; phase = protocol.idle }
       at c = elim (cases_lt c m) [
         | inl inside ↦
-            cond-true (ltb c m) (client_of (get_or (replicate m (new_client lowest) ++ others) c (new_client lowest)) (view above (blank lowest initial) n (part (n * (n + 1)) reports c)))
+            cond-true (ltb c m) (client_of (get_or (replicate m (new_client lowest) ++ others) c (new_client lowest)) (view above (lowest, initial) n (part (n * (n + 1)) reports c)))
             (client_of (new_client lowest) (unread lowest initial)) (lt-ltb c m inside)
-            ∙ ap (λ x. client_of x (view above (blank lowest initial) n (part (n * (n + 1)) reports c))) (set_up m c (new_client lowest) others inside)
+            ∙ ap (λ x. client_of x (view above (lowest, initial) n (part (n * (n + 1)) reports c))) (set_up m c (new_client lowest) others inside)
         | inr outside ↦
-            cond-false (ltb c m) (client_of (get_or (replicate m (new_client lowest) ++ others) c (new_client lowest)) (view above (blank lowest initial) n (part (n * (n + 1)) reports c)))
+            cond-false (ltb c m) (client_of (get_or (replicate m (new_client lowest) ++ others) c (new_client lowest)) (view above (lowest, initial) n (part (n * (n + 1)) reports c)))
             (client_of (new_client lowest) (unread lowest initial)) (le-ltb c m outside)
       ]
 

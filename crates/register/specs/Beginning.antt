@@ -4,14 +4,14 @@ use Rattle.calls.specs.Refusals.{first_failed}
 use Rattle.calls.specs.declared.Answer.{Answer}
 use Rattle.calls.specs.declared.Refusal.{Refusal}
 use Rattle.calls.specs.declared.Refusal.TheVariants.{OperationOpen, NumbersUsedUp, NetworkFull}
-use Rattle.reading.specs.declared.reports.Report.{Report}
+use Rattle.reading.specs.Reports.{Report}
 use Rattle.reading.specs.Readings.{updated}
 use Rattle.reading.specs.Reports.{blank}
 use Rattle.protocol.specs.Settings.{Setting}
 use Rattle.protocol.specs.Clients as protocol
 use Rattle.client.specs.Showing.{messages_of}
 use Rattle.client.specs.declared.state.Client.{Client}
-use Rattle.client.specs.declared.state.Dispatch.{Dispatch}
+use Rattle.client.specs.declared.state.Broadcast.{Broadcast}
 use Rattle.delivery.specs.Memory.{part, report_count}
 use Rattle.delivery.specs.Answering.{OnlyOf}
 use Rattle.delivery.specs.Parts.{clients_in}
@@ -25,7 +25,7 @@ module _ {S V : Type 0} (K : Setting S V) where
       ∷ ((nat_le 4294967295 x.number, NumbersUsedUp) ∷ ((nat_lt room K.rules.n, NetworkFull) ∷ [])))
 
   -- begun: the client is as the outcome says, the others as they were, and so are answer and messages
-  pub record BegunBy (clients : List (Client S V)) (reports : List (Report S V)) (c : ℕ) (o : protocol.Outcome S V) (given : Answer S V × Dispatch S V)
+  pub record BegunBy (clients : List (Client S V)) (reports : List (Report S V)) (c : ℕ) (o : protocol.Outcome S V) (given : Answer S V × Option (Broadcast S V))
       (clients' : List (Client S V)) (reports' : List (Report S V)) : Type 0 where
     pub clients_after : clients_in K K.client_count clients' reports' ≡ updated (clients_in K K.client_count clients reports) c o.after
     pub clients_rest : drop K.client_count clients' ≡ drop K.client_count clients
@@ -33,7 +33,7 @@ module _ {S V : Type 0} (K : Setting S V) where
     pub sent_is : messages_of K.rules.n c given.1 ≡ o.sent
 
   -- begun, or refused with clients and reports as they were
-  abbrev pub BegunAt : List (Client S V) → List (Report S V) → ℕ → protocol.Outcome S V → ℕ → Result (Answer S V × Dispatch S V) Refusal → List (Client S V) → List (Report S V) → Type 0
+  abbrev pub BegunAt : List (Client S V) → List (Report S V) → ℕ → protocol.Outcome S V → ℕ → Result (Answer S V × Option (Broadcast S V)) Refusal → List (Client S V) → List (Report S V) → Type 0
   BegunAt clients reports c o room (Ok given) clients' reports' =
       (client_refuses (clients_in K K.client_count clients reports c) room ≡ None) × BegunBy clients reports c o given clients' reports'
   BegunAt clients reports c o room (Err e) clients' reports' =
@@ -42,9 +42,9 @@ module _ {S V : Type 0} (K : Setting S V) where
   -- a client's reports are all blank, and the others as they were
   pub record BlankFor (c : ℕ) (reports reports' : List (Report S V)) : Type 0 where
     pub only : OnlyOf K c reports reports'
-    pub own : part (report_count K) reports' c ≡ replicate (report_count K) (blank K.lowest K.initial)
+    pub own : part (report_count K) reports' c ≡ replicate (report_count K) (K.lowest, K.initial)
 
   -- the reports after a read began; refused: as they were
-  abbrev pub ReadReports : ℕ → List (Report S V) → Result (Answer S V × Dispatch S V) Refusal → List (Report S V) → Type 0
+  abbrev pub ReadReports : ℕ → List (Report S V) → Result (Answer S V × Option (Broadcast S V)) Refusal → List (Report S V) → Type 0
   ReadReports c reports (Ok given) reports' = BlankFor c reports reports'
   ReadReports c reports (Err e) reports' = reports' ≡ reports

@@ -7,7 +7,7 @@ ghost use Rattle.delivery.specs.Parts.{clients_in};
 ghost use Rattle.register.specs.Beginning.{BegunAt, ReadReports};
 
 use calls::{Answer, Refusal};
-use client::state::{Client, Dispatch};
+use client::state::{Broadcast, Client};
 use quorums::QuorumSystem;
 use reading::reports::{Report, entries_for};
 use timestamps::Timestamp;
@@ -20,7 +20,7 @@ pub(crate) fn begin_write_at<Q: QuorumSystem, S: Timestamp, V: Value>(
     client: u8,
     value: V,
     room: usize,
-) -> Result<(Answer<S, V>, Dispatch<S, V>), Refusal>
+) -> Result<(Answer<S, V>, Option<Broadcast<S, V>>), Refusal>
     requires { client < length clients.old }
     ensures { (m capacity most : ℕ) (reports : _) → client < m → client * (Q.size system.now * (Q.size system.now + 1)) + Q.size system.now * (Q.size system.now + 1) ≤ length reports → BegunAt (setting m capacity most (rules (Q.size system.now) (Q.quorum system.now) (Q.fail_prone system.now) S.above V.same) S.owner S.lowest S.successor V.initial_value) clients.old reports client (begins_write (setting m capacity most (rules (Q.size system.now) (Q.quorum system.now) (Q.fail_prone system.now) S.above V.same) S.owner S.lowest S.successor V.initial_value) client (clients_in (setting m capacity most (rules (Q.size system.now) (Q.quorum system.now) (Q.fail_prone system.now) S.above V.same) S.owner S.lowest S.successor V.initial_value) m clients.old reports client) value) room result clients.new reports }
 {
@@ -35,7 +35,7 @@ pub(crate) fn begin_read_at<Q: QuorumSystem, S: Timestamp, V: Value>(
     reports: &mut [Report<S, V>],
     client: u8,
     room: usize,
-) -> Result<(Answer<S, V>, Dispatch<S, V>), Refusal>
+) -> Result<(Answer<S, V>, Option<Broadcast<S, V>>), Refusal>
     requires client { client < length clients.old }
     requires part { client * (Q.size system.now * (Q.size system.now + 1)) + Q.size system.now * (Q.size system.now + 1) ≤ length reports.old }
     ensures { (m capacity most : ℕ) → client < m → BegunAt (setting m capacity most (rules (Q.size system.now) (Q.quorum system.now) (Q.fail_prone system.now) S.above V.same) S.owner S.lowest S.successor V.initial_value) clients.old reports.old client (begins_read (setting m capacity most (rules (Q.size system.now) (Q.quorum system.now) (Q.fail_prone system.now) S.above V.same) S.owner S.lowest S.successor V.initial_value) client (clients_in (setting m capacity most (rules (Q.size system.now) (Q.quorum system.now) (Q.fail_prone system.now) S.above V.same) S.owner S.lowest S.successor V.initial_value) m clients.old reports.old client)) room result clients.new reports.new × ReadReports (setting m capacity most (rules (Q.size system.now) (Q.quorum system.now) (Q.fail_prone system.now) S.above V.same) S.owner S.lowest S.successor V.initial_value) client reports.old result reports.new }

@@ -12,7 +12,7 @@ ghost use Rattle.register.specs.Calling.{network_of, with_queue, Answers, ReadAn
 use crate::begin::{begin_read_at, begin_write_at};
 use crate::record::Register;
 use calls::{Answer, Refusal};
-use client::state::{Client, Dispatch};
+use client::state::{Broadcast, Client};
 use network::message::Message;
 use network::queue::Network;
 use quorums::QuorumSystem;
@@ -45,7 +45,7 @@ impl<Q: QuorumSystem> Register<Q> {
         &mut self,
         messages: &mut [Message<S, V>],
         client: u8,
-        dispatch: Dispatch<S, V>,
+        dispatch: Option<Broadcast<S, V>>,
     )
         requires { Room (network_of self.old) (length messages.old) (sending (Q.size self.old.system) dispatch) }
         ensures record { self.new ≡ with_queue self.old self.new.len self.old.faulty }

@@ -20,5 +20,5 @@ returns g c m capacity most reports within inside =
     let u = c.args.client in
     let given : get_or cs u c.index-clients-place.result ≡ get_or cs u first = get_or_default cs u c.index-clients-place.result first c.requires in
     let P : Client g.row.S.Denot g.row.V.Denot → Type 0 = λ x.
-    BegunWrite bare (blank g.S.Timestamp.lowest g.V.Value.initial_value) x u c.args.value c.args.room c.begin_write.result c.begin_write.new.self in
+    BegunWrite bare (g.S.Timestamp.lowest, g.V.Value.initial_value) x u c.args.value c.args.room c.begin_write.result c.begin_write.new.self in
     begun_write_at K cs reports u c.args.room within c.requires inside c.args.value c.begin_write.result c.begin_write.new.self (subst P given c.begin_write.ensures)
