@@ -2,12 +2,12 @@
 use Rattle.std.proofs.Common.{◌≡◌, ℕ, ◌+◌, ◌<◌, ◌≤◌, true, false, List, ◌∷◌, length, get_or, drop, set, is_some, Some, None, Option, sym, refl, ap, ◌∙◌, inl, inr, arith}
 use Rattle.std.proofs.lemmas.List.{drop_all, drop-set, drop_more}
 use Rattle.std.proofs.lemmas.Bool.{cases_Bool, both_ways}
-use Rattle.reading.specs.declared.reports.Report.{Report}
 use Rattle.reading.specs.Readings.{Rules}
+use Rattle.reading.specs.Reports.{Report}
 use Rattle.reading.specs.Hearing.{Hearing, enough_memory}
 use Rattle.client.specs.Taking.{Tried}
 
-module _ {S V : Type 0} (K : Rules S V) (d : Report S V) (b : ℕ) (t : S) (v : V) where
+module _ {S V : Type 0} (K : Rules S V) (d : S × V) (b : ℕ) (t : S) (v : V) where
   -- past the last report there is none to write back
   pub try_end : (p q : List (Report S V)) (i : ℕ) (r : Option (S × V)) → length p ≤ i → length q ≡ length p → Hearing K d p b t v r q → Tried K d i p b t v r q
   try_end p q i None past long heard = heard

@@ -4,9 +4,8 @@ use Rattle.std.proofs.lemmas.List.{length-append}
 use Rattle.calls.specs.declared.Refusal.{Refusal}
 use Rattle.std.proofs.lemmas.Bool.{both_ways}
 use Rattle.network.specs.declared.message.Message.{Message}
-use Rattle.reading.specs.declared.reports.Report.{Report}
 use Rattle.reading.specs.Readings.{Reading, decide}
-use Rattle.reading.specs.Reports.{view}
+use Rattle.reading.specs.Reports.{Report, view}
 use Rattle.reading.specs.Hearing.{Heard, after_value}
 use Rattle.protocol.specs.Settings.{Setting}
 use Rattle.network.specs.declared.message.Kind.{Kind}
@@ -24,7 +23,7 @@ pub length-to_all : {A : Type 0} (n : ℕ) (f : ℕ → A) → length (to_all n 
 length-to_all zero f = refl
 length-to_all (suc n) f = length-append (to_all n f) (f n ∷ []) ∙ (let h = length-to_all n f in omega arith)
 
-module _ {S V : Type 0} (K : Setting S V) (d : Report S V) where
+module _ {S V : Type 0} (K : Setting S V) (d : S × V) where
   -- what comes of a decision does not turn on what the client knew
   decided_same : (c : ℕ) (x : Client S V) (known other r : Reading S V) (found : Option (S × V)) → decided K c (client_of x known) r found ≡ decided K c (client_of x other) r found
   decided_same c x known other r None = refl
@@ -74,7 +73,7 @@ pub length-messages : {S V : Type 0} (n c : ℕ) (x : Option (Broadcast S V)) �
 length-messages n c None = refl
 length-messages n c (Some x) = length-to_all n (λ b. from_client c b x.kind x.number x.timestamp x.value)
 
-module _ {S V : Type 0} (K : Setting S V) (d : Report S V) (p : List (Report S V)) (m : Message S V) (room : ℕ) where
+module _ {S V : Type 0} (K : Setting S V) (d : S × V) (p : List (Report S V)) (m : Message S V) (room : ℕ) where
   -- an outcome that leaves the reports alone, weighed against the room
   pub weigh_fitting : (n : ℕ) (o : Outcome S V) (e : protocol.Outcome S V) (r : Result (Outcome S V) Refusal) → n ≡ K.rules.n
       → outcome_of K.rules.n m.client o (view K.rules.above d K.rules.n p) ≡ e → Fitting n room o r → Weighs K d p m e room r p

@@ -7,9 +7,8 @@ use Rattle.calls.specs.declared.Refusal.TheVariants.{Memory, OperationOpen, Numb
 use Rattle.network.specs.declared.message.Kind.{Kind}
 use Rattle.network.specs.declared.message.Kind.TheVariants.{Query, Ts, Store, Ack, Read, Value, Stop}
 use Rattle.network.specs.declared.message.Message.{Message}
-use Rattle.reading.specs.declared.reports.Report.{Report}
 use Rattle.reading.specs.Readings.{Rules, Reading, decide}
-use Rattle.reading.specs.Reports.{view}
+use Rattle.reading.specs.Reports.{Report, view}
 use Rattle.reading.specs.Hearing.{Hearing, Heard, enough_memory, after_value}
 use Rattle.protocol.specs.Settings.{Setting}
 use Rattle.protocol.specs.Clients as protocol
@@ -59,18 +58,18 @@ Fitting n room o (Ok r) = (r ≡ o) × (sending n o.broadcast ≤ room)
 Fitting n room o (Err e) = (e ≡ NetworkFull) × (room < sending n o.broadcast)
 
 -- a VALUE that may not end the read: it is heard where nothing is decided, and where it would end the read, the reports from the i-th on stay
-abbrev pub Tried : {S V : Type 0} → Rules S V → Report S V → ℕ → List (Report S V) → ℕ → S → V → Option (S × V) → List (Report S V) → Type 0
+abbrev pub Tried : {S V : Type 0} → Rules S V → S × V → ℕ → List (Report S V) → ℕ → S → V → Option (S × V) → List (Report S V) → Type 0
 Tried K d i p b t v None q = Hearing K d p b t v None q
 Tried K d i p b t v (Some pair) q =
     (decide K (after_value K d p b t v) (after_value K d p b t v).watched ≡ Some pair) × (drop i q ≡ drop i p)
 
 -- a VALUE where there is room for so many messages: it is heard, unless it ends the read and STOP to every server finds no room
-abbrev pub Within : {S V : Type 0} → Rules S V → Report S V → ℕ → List (Report S V) → ℕ → S → V → Result (Option (S × V)) Refusal → List (Report S V) → Type 0
+abbrev pub Within : {S V : Type 0} → Rules S V → S × V → ℕ → List (Report S V) → ℕ → S → V → Result (Option (S × V)) Refusal → List (Report S V) → Type 0
 Within K d room p b t v (Ok r) q = Heard K d p b t v r q × (is_some r ≡ true → K.n ≤ room)
 Within K d room p b t v (Err e) q =
     (e ≡ NetworkFull) × (room < K.n) × (is_some (decide K (after_value K d p b t v) (after_value K d p b t v).watched) ≡ true) × (q ≡ p)
 
-module _ {S V : Type 0} (K : Setting S V) (d : Report S V) where
+module _ {S V : Type 0} (K : Setting S V) (d : S × V) where
   -- what the protocol makes of a message, for the client with these reports
   abbrev pub expected : Client S V → List (Report S V) → Message S V → Kind → protocol.Outcome S V
   expected x p m kind = protocol.takes K kind (client_of x (view K.rules.above d K.rules.n p)) m
@@ -113,10 +112,10 @@ module _ {S V : Type 0} (K : Setting S V) (d : Report S V) where
       × ((known : Reading S V) → outcome_of K.rules.n c (record { client = x'; answer = given.0; broadcast = given.1 }) known ≡ protocol.begins_write K c (client_of x known) v)
   BegunWrite x c v room (Err e) x' = (begin_refusal x room ≡ Some e) × (x' ≡ x)
 
-  -- begun: the reports are all blank, so that nothing is known; refused: client and reports are as they were
+  -- begun: no entry reports anything, so that nothing is known; refused: client and reports are as they were
   abbrev pub BegunRead : Client S V → List (Report S V) → ℕ → ℕ → Result (Answer S V × Option (Broadcast S V)) Refusal → Client S V → List (Report S V) → Type 0
   BegunRead x p c room (Ok given) x' p' =
       (begin_refusal x room ≡ None)
       × (outcome_of K.rules.n c (record { client = x'; answer = given.0; broadcast = given.1 }) (view K.rules.above d K.rules.n p') ≡ protocol.begins_read K c (client_of x (view K.rules.above d K.rules.n p)))
-      × (p' ≡ replicate (length p) d)
+      × (p' ≡ replicate (length p) None)
   BegunRead x p c room (Err e) x' p' = (begin_refusal x room ≡ Some e) × (x' ≡ x) × (p' ≡ p)

@@ -1,9 +1,9 @@
 // How a client begins an operation.
-ghost use Rattle.std.specs.Prelude.{◌≡◌, ◌<◌, length, replicate};
+ghost use Rattle.std.specs.Prelude.{◌≡◌, ◌<◌, length, replicate, None};
 ghost use Rattle.client.specs.declared.state.Phase.TheVariants.{Idle};
 ghost use Rattle.calls.specs.Refusals.{passed};
 ghost use Rattle.reading.specs.Readings.{unread};
-ghost use Rattle.reading.specs.Reports.{blank, view};
+ghost use Rattle.reading.specs.Reports.{view};
 ghost use Rattle.protocol.specs.Clients.{reading, begins};
 ghost use Rattle.client.specs.Showing.{kinds_of, phase_of, client_of, outcome_of};
 ghost use Rattle.client.specs.Taking.{is_resting, begin_refusal, BegunWrite, BegunRead};
@@ -55,7 +55,7 @@ impl<S: Timestamp, V: Value> Client<S, V> {
 
     // Whether an operation may begin, where there is room for so many messages.
     fn may_begin<Q: QuorumSystem>(&self, system: &Q, room: usize) -> Result<(), Refusal>
-        ensures { result ≡ passed (begin_refusal (kinds_of Q.QuorumSystem S.Timestamp V.Value system.now) (blank S.lowest V.initial_value) self.now room) }
+        ensures { result ≡ passed (begin_refusal (kinds_of Q.QuorumSystem S.Timestamp V.Value system.now) (S.lowest, V.initial_value) self.now room) }
     {
         if !self.rests() {
             return Err(Refusal::OperationOpen);
@@ -101,8 +101,8 @@ impl<S: Timestamp, V: Value> Client<S, V> {
         kind: Kind,
     ) -> Outcome<S, V>
         requires { self.now.number < 4294967295 }
-        ensures begun { outcome_of (Q.size system.now) client result (view S.above (blank S.lowest V.initial_value) (Q.size system.now) part.new) ≡ begins (kinds_of Q.QuorumSystem S.Timestamp V.Value system.now) client (client_of self.now (view S.above (blank S.lowest V.initial_value) (Q.size system.now) part.old)) (reading (unread S.lowest V.initial_value)) kind }
-        ensures memory { part.new ≡ replicate (length part.old) (blank S.lowest V.initial_value) }
+        ensures begun { outcome_of (Q.size system.now) client result (view S.above (S.lowest, V.initial_value) (Q.size system.now) part.new) ≡ begins (kinds_of Q.QuorumSystem S.Timestamp V.Value system.now) client (client_of self.now (view S.above (S.lowest, V.initial_value) (Q.size system.now) part.old)) (reading (unread S.lowest V.initial_value)) kind }
+        ensures memory { part.new ≡ replicate (length part.old) None }
     {
         forget(part);
         self.begun(system, client, Phase::Reading, kind)
@@ -116,7 +116,7 @@ impl<S: Timestamp, V: Value> Client<S, V> {
         value: V,
         room: usize,
     ) -> Result<(Answer<S, V>, Option<Broadcast<S, V>>), Refusal>
-        ensures { BegunWrite (kinds_of Q.QuorumSystem S.Timestamp V.Value system.now) (blank S.lowest V.initial_value) self.old client value room result self.new }
+        ensures { BegunWrite (kinds_of Q.QuorumSystem S.Timestamp V.Value system.now) (S.lowest, V.initial_value) self.old client value room result self.new }
     {
         self.may_begin(system, room)?;
         let asking = Phase::Asking {
@@ -137,7 +137,7 @@ impl<S: Timestamp, V: Value> Client<S, V> {
         client: u8,
         room: usize,
     ) -> Result<(Answer<S, V>, Option<Broadcast<S, V>>), Refusal>
-        ensures { BegunRead (kinds_of Q.QuorumSystem S.Timestamp V.Value system.now) (blank S.lowest V.initial_value) self.old part.old client room result self.new part.new }
+        ensures { BegunRead (kinds_of Q.QuorumSystem S.Timestamp V.Value system.now) (S.lowest, V.initial_value) self.old part.old client room result self.new part.new }
     {
         self.may_begin(system, room)?;
         let outcome = self.begun_anew(system, part, client, Kind::Read);

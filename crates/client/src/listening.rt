@@ -1,7 +1,7 @@
 // A client that reads: VALUE.
 ghost use Rattle.std.specs.Prelude.{◌≡◌, ℕ, ◌+◌, ◌*◌, ◌<◌, ◌≤◌, true, length};
 ghost use Rattle.reading.specs.Readings.{rules_of, heard, decide};
-ghost use Rattle.reading.specs.Reports.{blank, view};
+ghost use Rattle.reading.specs.Reports.{view};
 ghost use Rattle.reading.specs.Hearing.{enough_memory};
 ghost use Rattle.protocol.specs.Clients.{reading, decided, on_value};
 ghost use Rattle.client.specs.Showing.{kinds_of, client_of, outcome_of};
@@ -53,7 +53,7 @@ impl<S: Timestamp, V: Value> Client<S, V> {
         room: usize,
     ) -> Result<Outcome<S, V>, Refusal>
         requires { enough_memory (Q.size system.now) part.old message.server ≡ true }
-        ensures { Weighs (kinds_of Q.QuorumSystem S.Timestamp V.Value system.now) (blank S.lowest V.initial_value) part.old message (on_value (kinds_of Q.QuorumSystem S.Timestamp V.Value system.now) (client_of self.now (view S.above (blank S.lowest V.initial_value) (Q.size system.now) part.old)) message (reading (view S.above (blank S.lowest V.initial_value) (Q.size system.now) part.old))) room result part.new }
+        ensures { Weighs (kinds_of Q.QuorumSystem S.Timestamp V.Value system.now) (S.lowest, V.initial_value) part.old message (on_value (kinds_of Q.QuorumSystem S.Timestamp V.Value system.now) (client_of self.now (view S.above (S.lowest, V.initial_value) (Q.size system.now) part.old)) message (reading (view S.above (S.lowest, V.initial_value) (Q.size system.now) part.old))) room result part.new }
     {
         let found = hear_within(system, part, message, room)?;
         Ok(self.decided(system, message.client, found))
@@ -68,7 +68,7 @@ fn try_value<Q: QuorumSystem, S: Timestamp, V: Value>(
     message: Message<S, V>,
     i: usize,
 ) -> Option<(S, V)>
-    ensures { Tried (rules_of Q.QuorumSystem S.Timestamp V.Value system.now) (blank S.lowest V.initial_value) i part.old message.server message.timestamp message.value result part.new }
+    ensures { Tried (rules_of Q.QuorumSystem S.Timestamp V.Value system.now) (S.lowest, V.initial_value) i part.old message.server message.timestamp message.value result part.new }
 {
     if i >= part.len() {
         return hear(
@@ -95,7 +95,7 @@ fn hear_within<Q: QuorumSystem, S: Timestamp, V: Value>(
     room: usize,
 ) -> Result<Option<(S, V)>, Refusal>
     requires { enough_memory (Q.size system.now) part.old message.server ≡ true }
-    ensures { Within (rules_of Q.QuorumSystem S.Timestamp V.Value system.now) (blank S.lowest V.initial_value) room part.old message.server message.timestamp message.value result part.new }
+    ensures { Within (rules_of Q.QuorumSystem S.Timestamp V.Value system.now) (S.lowest, V.initial_value) room part.old message.server message.timestamp message.value result part.new }
 {
     if room >= system.servers() as usize {
         return Ok(hear(

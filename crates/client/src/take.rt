@@ -1,6 +1,6 @@
 // What a client makes of a message.
 ghost use Rattle.std.specs.Prelude.{◌≡◌, ◌+◌, ◌*◌, true, false, ◌&&◌, nat_le, nat_lt};
-ghost use Rattle.reading.specs.Reports.{blank, view};
+ghost use Rattle.reading.specs.Reports.{view};
 ghost use Rattle.reading.specs.Hearing.{enough_memory};
 ghost use Rattle.protocol.specs.Clients.{awaited};
 ghost use Rattle.client.specs.Showing.{kinds_of, client_of};
@@ -44,7 +44,7 @@ impl<S: Timestamp, V: Value> Client<S, V> {
         room: usize,
     ) -> Result<Outcome<S, V>, Refusal>
         requires { enough_memory (Q.size system.now) part.old message.server ≡ true }
-        ensures weighed { Weighs (kinds_of Q.QuorumSystem S.Timestamp V.Value system.now) (blank S.lowest V.initial_value) part.old message (awaited (kinds_of Q.QuorumSystem S.Timestamp V.Value system.now) kind (client_of self.now (view S.above (blank S.lowest V.initial_value) (Q.size system.now) part.old)) message) room result part.new }
+        ensures weighed { Weighs (kinds_of Q.QuorumSystem S.Timestamp V.Value system.now) (S.lowest, V.initial_value) part.old message (awaited (kinds_of Q.QuorumSystem S.Timestamp V.Value system.now) kind (client_of self.now (view S.above (S.lowest, V.initial_value) (Q.size system.now) part.old)) message) room result part.new }
         ensures unheard { (is_reading self.now.phase && is_value kind) ≡ false → part.new ≡ part.old }
     {
         match (&self.phase, kind) {
@@ -86,7 +86,7 @@ impl<S: Timestamp, V: Value> Client<S, V> {
         kind: Kind,
         room: usize,
     ) -> Result<(Answer<S, V>, Option<Broadcast<S, V>>), Refusal>
-        ensures taken { TakenIn (kinds_of Q.QuorumSystem S.Timestamp V.Value system.now) (blank S.lowest V.initial_value) self.old part.old message kind room result self.new part.new }
+        ensures taken { TakenIn (kinds_of Q.QuorumSystem S.Timestamp V.Value system.now) (S.lowest, V.initial_value) self.old part.old message kind room result self.new part.new }
         ensures unheard { hears_value self.old message kind ≡ false → part.new ≡ part.old }
     {
         if !is_enough(part.len(), system.servers(), message.server) {

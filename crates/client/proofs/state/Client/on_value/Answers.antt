@@ -1,6 +1,5 @@
 use Rattle.std.proofs.Common.{◌∙◌}
 use Rattle.std.proofs.lemmas.Result.{err_from_is_err_and}
-use Rattle.reading.specs.Reports.{blank}
 use Rattle.client.specs.Showing.{kinds_of}
 use Rattle.client.proofs.Weighing.{value_weighed, value_overfull}
 use Rattle.client.proofs.state.Client.on_value.Goals as goal
@@ -13,7 +12,7 @@ returns-in_err-found g c =
     let p = err_from_is_err_and c.from_residual.result c.from_residual.ensures.1 in
     rw p.1 (
       p.2 ∙ told.0,
-      value_overfull K (blank g.S.Timestamp.lowest g.V.Value.initial_value) c.args.self.now c.args.message c.args.part.now c.args.room told.1 told.2,
+      value_overfull K (g.S.Timestamp.lowest, g.V.Value.initial_value) c.args.self.now c.args.message c.args.part.now c.args.room told.1 told.2,
       told.3,
     )
 
@@ -22,5 +21,5 @@ returns g c =
     let q = c.args.system.now in
     let K = kinds_of g.Q.QuorumSystem g.S.Timestamp g.V.Value q in
     let told = c.in_ok-found.ensures in
-    value_weighed K (blank g.S.Timestamp.lowest g.V.Value.initial_value) c.args.self.now c.args.message c.args.part.now c.args.room
+    value_weighed K (g.S.Timestamp.lowest, g.V.Value.initial_value) c.args.self.now c.args.message c.args.part.now c.args.room
     c.hear_within.new.part c.decided.result c.in_ok-found.found c.decided.ensures told.0 told.1

@@ -1,7 +1,7 @@
 use Rattle.std.proofs.Common.{◌≡◌, sym, refl, ap, ◌∙◌, rules as general_rules}
 use Rattle.network.specs.declared.message.Kind.TheVariants.{Ts, Ack, Value}
 use Rattle.quorums.specs.Sets.{members}
-use Rattle.reading.specs.Reports.{blank, view}
+use Rattle.reading.specs.Reports.{view}
 use Rattle.protocol.specs.Clients.{idle, asking, storing, reading, on_ts, on_ack, awaited}
 use Rattle.client.specs.Showing.{kinds_of, phase_of, client_of}
 use Rattle.client.proofs.Weighing.{weigh_fitting, weigh_unchanged, idle_drops, asking_drops, storing_drops, reading_drops}
@@ -11,7 +11,7 @@ pub returns-in-Asking-Ts : goal.returns-in-Asking-Ts
 returns-in-Asking-Ts g c =
     let q = c.args.system.now in
     let K = kinds_of g.Q.QuorumSystem g.S.Timestamp g.V.Value q in
-    let d = blank g.S.Timestamp.lowest g.V.Value.initial_value in
+    let d : g.row.S.Denot × g.row.V.Denot = (g.S.Timestamp.lowest, g.V.Value.initial_value) in
     let p = c.args.part.now in
     let m = c.args.message in
     let known = view g.S.Timestamp.above d (g.Q.QuorumSystem.size q) p in
@@ -24,7 +24,7 @@ pub returns-in-Asking-default : goal.returns-in-Asking-default
 returns-in-Asking-default g c =
     let q = c.args.system.now in
     let K = kinds_of g.Q.QuorumSystem g.S.Timestamp g.V.Value q in
-    let d = blank g.S.Timestamp.lowest g.V.Value.initial_value in
+    let d : g.row.S.Denot × g.row.V.Denot = (g.S.Timestamp.lowest, g.V.Value.initial_value) in
     let p = c.args.part.now in
     let m = c.args.message in
     let known = view g.S.Timestamp.above d (g.Q.QuorumSystem.size q) p in
@@ -37,7 +37,7 @@ pub returns-in-Storing-Ack : goal.returns-in-Storing-Ack
 returns-in-Storing-Ack g c =
     let q = c.args.system.now in
     let K = kinds_of g.Q.QuorumSystem g.S.Timestamp g.V.Value q in
-    let d = blank g.S.Timestamp.lowest g.V.Value.initial_value in
+    let d : g.row.S.Denot × g.row.V.Denot = (g.S.Timestamp.lowest, g.V.Value.initial_value) in
     let p = c.args.part.now in
     let m = c.args.message in
     let known = view g.S.Timestamp.above d (g.Q.QuorumSystem.size q) p in
@@ -50,7 +50,7 @@ pub returns-in-Storing-default : goal.returns-in-Storing-default
 returns-in-Storing-default g c =
     let q = c.args.system.now in
     let K = kinds_of g.Q.QuorumSystem g.S.Timestamp g.V.Value q in
-    let d = blank g.S.Timestamp.lowest g.V.Value.initial_value in
+    let d : g.row.S.Denot × g.row.V.Denot = (g.S.Timestamp.lowest, g.V.Value.initial_value) in
     let p = c.args.part.now in
     let m = c.args.message in
     let known = view g.S.Timestamp.above d (g.Q.QuorumSystem.size q) p in
@@ -63,7 +63,7 @@ pub returns-in-Reading-default : goal.returns-in-Reading-default
 returns-in-Reading-default g c =
     let q = c.args.system.now in
     let K = kinds_of g.Q.QuorumSystem g.S.Timestamp g.V.Value q in
-    let d = blank g.S.Timestamp.lowest g.V.Value.initial_value in
+    let d : g.row.S.Denot × g.row.V.Denot = (g.S.Timestamp.lowest, g.V.Value.initial_value) in
     let p = c.args.part.now in
     let m = c.args.message in
     let known = view g.S.Timestamp.above d (g.Q.QuorumSystem.size q) p in
@@ -76,7 +76,7 @@ pub returns-in-Idle-default : goal.returns-in-Idle-default
 returns-in-Idle-default g c =
     let q = c.args.system.now in
     let K = kinds_of g.Q.QuorumSystem g.S.Timestamp g.V.Value q in
-    let d = blank g.S.Timestamp.lowest g.V.Value.initial_value in
+    let d : g.row.S.Denot × g.row.V.Denot = (g.S.Timestamp.lowest, g.V.Value.initial_value) in
     let p = c.args.part.now in
     let m = c.args.message in
     let known = view g.S.Timestamp.above d (g.Q.QuorumSystem.size q) p in
