@@ -18,7 +18,7 @@ use reading::reports::Report;
 use timestamps::Timestamp;
 use values::Value;
 
-pub const MOST_OPERATIONS: u32 = 4_294_967_295;
+pub const MOST_OPERATIONS: u32 = u32::MAX;
 
 impl<S: Timestamp, V: Value> Broadcast<S, V> {
     // One with the initial timestamp and value.
@@ -67,6 +67,17 @@ impl<S: Timestamp, V: Value> Client<S, V> {
             return Err(Refusal::NetworkFull);
         }
         Ok(())
+    }
+
+    // The client becomes what the outcome says: what is answered, and what goes to the servers.
+    pub(crate) fn becomes(
+        &mut self,
+        outcome: Outcome<S, V>,
+    ) -> (Answer<S, V>, Option<Broadcast<S, V>>)
+        ensures { (self.new ≡ outcome.client) × (result ≡ (outcome.answer, outcome.broadcast)) }
+    {
+        *self = outcome.client;
+        (outcome.answer, outcome.broadcast)
     }
 
     // An operation under the next number, whose message goes to every server.
@@ -125,8 +136,7 @@ impl<S: Timestamp, V: Value> Client<S, V> {
             highest: S::initial(),
         };
         let outcome = self.begun(system, client, asking, Kind::Query);
-        *self = outcome.client;
-        Ok((outcome.answer, outcome.broadcast))
+        Ok(self.becomes(outcome))
     }
 
     // Begins a read, with nothing known.
@@ -141,7 +151,6 @@ impl<S: Timestamp, V: Value> Client<S, V> {
     {
         self.may_begin(system, room)?;
         let outcome = self.begun_anew(system, part, client, Kind::Read);
-        *self = outcome.client;
-        Ok((outcome.answer, outcome.broadcast))
+        Ok(self.becomes(outcome))
     }
 }

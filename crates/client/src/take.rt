@@ -1,9 +1,9 @@
 // What a client makes of a message.
-ghost use Rattle.std.specs.Prelude.{◌≡◌, ◌+◌, ◌*◌, true, false, ◌&&◌, nat_le, nat_lt};
+ghost use Rattle.std.specs.Prelude.{◌≡◌, ◌<◌, ◌+◌, ◌*◌, true, false, ◌&&◌, nat_le, nat_lt};
 ghost use Rattle.reading.specs.Reports.{view};
 ghost use Rattle.reading.specs.Hearing.{enough_memory};
 ghost use Rattle.protocol.specs.Clients.{awaited};
-ghost use Rattle.client.specs.Showing.{kinds_of, client_of};
+ghost use Rattle.client.specs.Showing.{kinds_of, client_of, outcome_of};
 ghost use Rattle.client.specs.Taking.{sending, Fitting, is_reading, is_value, hears_value, expected, Weighs, TakenIn};
 
 use crate::state::{Broadcast, Client, Outcome, Phase};
@@ -34,6 +34,37 @@ fn is_enough(entries: usize, n: u8, server: u8) -> bool
 }
 
 impl<S: Timestamp, V: Value> Client<S, V> {
+    // A message of the open operation that is no VALUE of a read: one that the phase does not await is dropped.
+    fn on_other<Q: QuorumSystem>(
+        &self,
+        system: &Q,
+        message: Message<S, V>,
+        kind: Kind,
+    ) -> Outcome<S, V>
+        requires { message.server < 16 }
+        ensures { (known : _) → (is_reading self.now.phase && is_value kind) ≡ false → outcome_of (Q.size system.now) message.client result known ≡ awaited (kinds_of Q.QuorumSystem S.Timestamp V.Value system.now) kind (client_of self.now known) message }
+    {
+        match (self.phase, kind) {
+            (
+                Phase::Asking {
+                    value,
+                    told,
+                    highest,
+                },
+                Kind::Ts,
+            ) => self.on_ts(system, message, value, told, highest),
+            (
+                Phase::Storing {
+                    timestamp,
+                    value,
+                    acknowledged,
+                },
+                Kind::Ack,
+            ) => self.on_ack(system, message, timestamp, value, acknowledged),
+            _ => self.unchanged(),
+        }
+    }
+
     // A message of the open operation, where there is room for so many messages: one that the phase does not await is dropped.
     fn weigh<Q: QuorumSystem>(
         &self,
@@ -47,32 +78,11 @@ impl<S: Timestamp, V: Value> Client<S, V> {
         ensures weighed { Weighs (kinds_of Q.QuorumSystem S.Timestamp V.Value system.now) (S.lowest, V.initial_value) part.old message (awaited (kinds_of Q.QuorumSystem S.Timestamp V.Value system.now) kind (client_of self.now (view S.above (S.lowest, V.initial_value) (Q.size system.now) part.old)) message) room result part.new }
         ensures unheard { (is_reading self.now.phase && is_value kind) ≡ false → part.new ≡ part.old }
     {
-        match (&self.phase, kind) {
-            (
-                Phase::Asking {
-                    value,
-                    told,
-                    highest,
-                },
-                Kind::Ts,
-            ) => self
-                .on_ts(system, message, *value, *told, *highest)
-                .within(system.servers(), room),
-            (
-                Phase::Storing {
-                    timestamp,
-                    value,
-                    acknowledged,
-                },
-                Kind::Ack,
-            ) => self
-                .on_ack(system, message, *timestamp, *value, *acknowledged)
-                .within(system.servers(), room),
+        match (self.phase, kind) {
             (Phase::Reading, Kind::Value) => self.on_value(system, part, message, room),
-            (Phase::Idle, _) => Ok(self.unchanged()),
-            (Phase::Asking { .. }, _) => Ok(self.unchanged()),
-            (Phase::Storing { .. }, _) => Ok(self.unchanged()),
-            (Phase::Reading, _) => Ok(self.unchanged()),
+            _ => self
+                .on_other(system, message, kind)
+                .within(system.servers(), room),
         }
     }
 
@@ -96,7 +106,6 @@ impl<S: Timestamp, V: Value> Client<S, V> {
             return Ok((Answer::Taken, None));
         }
         let outcome = self.weigh(system, part, message, kind, room)?;
-        *self = outcome.client;
-        Ok((outcome.answer, outcome.broadcast))
+        Ok(self.becomes(outcome))
     }
 }
