@@ -1,5 +1,5 @@
 -- A message at its client, over the memory of all clients. Assumes nothing.
-use Rattle.std.proofs.Common.{◌≡◌, ℕ, ◌+◌, ◌*◌, ◌<◌, ◌≤◌, Bool, true, false, cond, not, eqb, ltb, leb, List, [], ◌∷◌, length, get_or, set, Some, Ok, Err, Result, sym, refl, ap, ◌∙◌, ap₂, inl, inr, arith}
+use Rattle.std.proofs.Common.{◌≡◌, ℕ, ◌+◌, ◌*◌, ◌<◌, ◌≤◌, Bool, true, false, cond, not, eqb, ltb, leb, List, [], ◌∷◌, length, Option, get_or, set, Some, Ok, Err, Result, sym, refl, ap, ◌∙◌, ap₂, inl, inr, arith}
 use mathlib.Core.Path.{fun_ext}
 use borrow.Rule.Slice.PartMut.{put_mid}
 use Rattle.std.proofs.lemmas.List.{get_or-set_same, get_or-set_other, set-get_or, drop-set-lt, length-set}
@@ -14,7 +14,7 @@ use Rattle.network.specs.declared.message.Kind.{Kind}
 use Rattle.network.specs.declared.message.Message.{Message}
 use Rattle.reading.specs.Reports.{Report}
 use Rattle.reading.specs.Readings.{updated, unread}
-use Rattle.reading.specs.Reports.{blank, view}
+use Rattle.reading.specs.Reports.{view}
 use Rattle.reading.specs.Hearing.{enough_memory}
 use Rattle.protocol.specs.Settings.{Setting}
 use Rattle.protocol.specs.Clients as protocol

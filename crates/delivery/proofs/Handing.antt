@@ -17,7 +17,7 @@ use Rattle.quorums.specs.Sets.{members}
 use Rattle.quorums.specs.declared.sets.ServerSet.{ServerSet}
 use Rattle.reading.specs.Reports.{Report}
 use Rattle.reading.specs.Readings.{Reading, unread}
-use Rattle.reading.specs.Reports.{blank, view}
+use Rattle.reading.specs.Reports.{view}
 use Rattle.server.specs.declared.state.Listener.{Listener}
 use Rattle.server.specs.declared.state.Server.{Server}
 use Rattle.protocol.specs.Settings.{Setting}

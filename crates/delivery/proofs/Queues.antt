@@ -1,5 +1,5 @@
 -- A queue from which a message is lifted, settled, and followed by others. Assumes nothing.
-use Rattle.std.proofs.Common.{◌≡◌, ℕ, zero, suc, ◌+◌, ◌-◌, ◌<◌, ◌≤◌, true, false, cond, not, ◌&&◌, ◌||◌, ltb, leb, List, [], ◌∷◌, ◌++◌, length, get_or, take, drop, is_some, Some, None, Ok, Err, Option, Result, sym, refl, ap, ◌∙◌, ap₂, arith}
+use Rattle.std.proofs.Common.{◌≡◌, ℕ, zero, suc, ◌+◌, ◌-◌, ◌<◌, ◌≤◌, true, false, cond, not, ◌&&◌, ◌||◌, ltb, leb, List, [], ◌∷◌, ◌++◌, length, append-nil, get_or, take, drop, is_some, Some, None, Ok, Err, Option, Result, sym, refl, ap, ◌∙◌, ap₂, arith}
 use Rattle.std.specs.List.{remove}
 use Rattle.std.proofs.lemmas.List.Edits.{length-remove}
 use Rattle.std.proofs.lemmas.List.{get_or-take, take_at, drop_at, length-append, length-drop, length-take-le}
@@ -7,7 +7,7 @@ use Rattle.std.proofs.lemmas.Bool.{and_parts, cond-true, leb-true, le-ltb, lt-le
 use Rattle.calls.specs.Refusals.{first_failed}
 use Rattle.calls.specs.declared.Refusal.{Refusal}
 use Rattle.calls.specs.declared.Refusal.TheVariants.{Memory, NetworkFull, TokenOut}
-use Rattle.network.specs.Queues.{sized, below, fits, closed, closed_at, closed_up, without, settled, restored, Room, Sent}
+use Rattle.network.specs.Queues.{sized, below, fits, closed, closed_at, closed_up, without, settled, restored, send_checks, queue, Room, Sent}
 use Rattle.network.specs.declared.message.Message.{Message}
 use Rattle.network.specs.declared.queue.Network.{Network}
 use Rattle.network.proofs.Sending.{room_fits}

@@ -5,7 +5,7 @@ use Rattle.calls.specs.declared.Answer.{Answer}
 use Rattle.calls.specs.declared.Answer.TheVariants.{Taken, Refused}
 use Rattle.calls.specs.declared.Refusal.{Refusal}
 use Rattle.calls.specs.declared.Refusal.TheVariants.{NetworkFull}
-use Rattle.network.specs.Queues.{fits, settled, closed_up, restored}
+use Rattle.network.specs.Queues.{fits, settled, closed_up, restored, Room, Sent}
 use Rattle.network.specs.declared.message.Kind.{Kind}
 use Rattle.network.specs.declared.message.Message.{Message}
 use Rattle.network.specs.declared.queue.Network.{Network}
@@ -14,12 +14,13 @@ use Rattle.server.specs.declared.state.Listener.{Listener}
 use Rattle.server.specs.declared.state.Server.{Server}
 use Rattle.protocol.specs.Settings.{Setting}
 use Rattle.client.specs.Showing.{messages_of}
+use Rattle.client.specs.Taking.{sending}
 use Rattle.client.specs.Sending.{Dispatched}
 use Rattle.client.specs.declared.state.Client.{Client}
 use Rattle.client.specs.declared.state.Broadcast.{Broadcast}
 use Rattle.delivery.specs.Parts.{server_reacts, ServersKept, Served, client_takes, ClientsKept, AttendedBy}
 use Rattle.delivery.specs.Handing.{room_without, Replaced, ServedOn, ToServer, ToClient}
-use Rattle.delivery.proofs.Queues.{room_settled, replaced, restored_as, length-messages, dispatched_sent, receive_passes}
+use Rattle.delivery.proofs.Queues.{room_settled, replaced, restored_as, length-messages, receive_passes}
 
 -- settled, and followed by what goes to the servers
 pub sent_on : {S V : Type 0} (n client : ℕ) (x : Option (Broadcast S V)) (net net' net'' : Network) (memory memory' memory'' : List (Message S V)) (place : ℕ)

@@ -5,7 +5,7 @@ use Rattle.quorums.specs.Sets.{members}
 use Rattle.quorums.specs.declared.sets.ServerSet.{ServerSet}
 use Rattle.reading.specs.Reports.{Report}
 use Rattle.reading.specs.Readings.{unread}
-use Rattle.reading.specs.Reports.{blank, view}
+use Rattle.reading.specs.Reports.{view}
 use Rattle.server.specs.Serving.{ServerState}
 use Rattle.server.specs.Receiving.{state_of}
 use Rattle.server.specs.declared.state.Listener.{Listener}

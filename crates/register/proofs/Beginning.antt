@@ -9,7 +9,7 @@ use Rattle.calls.specs.declared.Refusal.{Refusal}
 use Rattle.calls.specs.declared.Refusal.TheVariants.{OperationOpen, NumbersUsedUp, NetworkFull}
 use Rattle.reading.specs.Reports.{Report}
 use Rattle.reading.specs.Readings.{Reading, updated}
-use Rattle.reading.specs.Reports.{blank, view}
+use Rattle.reading.specs.Reports.{view}
 use Rattle.protocol.specs.Settings.{Setting, setting}
 use Rattle.protocol.specs.Clients as protocol
 use Rattle.client.specs.Showing.{phase_of, client_of, outcome_of}

@@ -9,7 +9,7 @@ use Rattle.server.specs.declared.state.Listener.{Listener}
 use Rattle.server.specs.declared.state.Server.{Server}
 use Rattle.reading.specs.Reports.{Report}
 use Rattle.reading.specs.Readings.{unread}
-use Rattle.reading.specs.Reports.{blank, view}
+use Rattle.reading.specs.Reports.{view}
 use Rattle.protocol.specs.Clients as protocol
 use Rattle.client.specs.Showing.{client_of}
 use Rattle.client.specs.declared.state.Client.{Client}

@@ -6,7 +6,6 @@ use Rattle.calls.specs.declared.Refusal.{Refusal}
 use Rattle.calls.specs.declared.Refusal.TheVariants.{OperationOpen, NumbersUsedUp, NetworkFull}
 use Rattle.reading.specs.Reports.{Report}
 use Rattle.reading.specs.Readings.{updated}
-use Rattle.reading.specs.Reports.{blank}
 use Rattle.protocol.specs.Settings.{Setting}
 use Rattle.protocol.specs.Clients as protocol
 use Rattle.client.specs.Showing.{messages_of}

@@ -2,7 +2,6 @@ use Rattle.std.proofs.Common.{◌≡◌, ℕ, false, ◌+◌, ◌-◌, ◌*◌, 
 use borrow.Author.Rules.{scaled_fits≤}
 use borrow.Rule.Slice.PartMut.{put_mid}
 use Rattle.std.proofs.lemmas.List.{length-take-le, length-drop, get_or_default}
-use Rattle.reading.specs.Reports.{blank}
 use Rattle.protocol.specs.Settings.{setting_of}
 use Rattle.client.specs.Taking.{hears_value, TakenIn}
 use Rattle.client.specs.declared.state.Client.{Client}

@@ -3,7 +3,6 @@ use borrow.Author.Rules.{scaled_fits≤}
 use borrow.Rule.Slice.PartMut.{put_mid}
 use Rattle.std.proofs.lemmas.List.{get_or_default}
 use Rattle.reading.specs.Readings.{rules}
-use Rattle.reading.specs.Reports.{blank}
 use Rattle.protocol.specs.Settings.{setting}
 use Rattle.client.specs.Taking.{BegunRead}
 use Rattle.client.specs.declared.state.Client.{Client}

@@ -1,7 +1,6 @@
 use Rattle.std.proofs.Common.{◌≡◌, get_or, subst}
 use Rattle.std.proofs.lemmas.List.{get_or_default}
 use Rattle.reading.specs.Readings.{rules}
-use Rattle.reading.specs.Reports.{blank}
 use Rattle.protocol.specs.Settings.{setting}
 use Rattle.client.specs.Taking.{BegunWrite}
 use Rattle.client.specs.declared.state.Client.{Client}
