@@ -3,6 +3,7 @@
 #![tactic(auto)]
 
 ghost use Rattle.std.specs.Prelude.{◌≡◌};
+ghost use Rattle.calls.specs.Answers.{answer_of};
 ghost use Rattle.calls.specs.Refusals.{number_of};
 
 use std::error::Error;
@@ -97,7 +98,20 @@ pub enum Answer<S, V> {
     },
     Turned,
     Forged,
+    // Kept: a run writes down what each call answers, so a refusal is one of the answers.
     Refused(Refusal),
+}
+
+// A refused call is answered too, since a run writes all answers down.
+impl<S, V> From<Result<Answer<S, V>, Refusal>> for Answer<S, V> {
+    ghost from_gives = { λ outcome answer. answer ≡ answer_of outcome };
+
+    fn from(outcome: Result<Answer<S, V>, Refusal>) -> Answer<S, V> {
+        match outcome {
+            Ok(answer) => answer,
+            Err(refusal) => Answer::Refused(refusal),
+        }
+    }
 }
 
 impl From<Refusal> for u8 {

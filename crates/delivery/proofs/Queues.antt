@@ -16,8 +16,6 @@ use Rattle.client.specs.Showing.{messages_of}
 use Rattle.client.specs.Taking.{sending}
 use Rattle.client.specs.Sending.{Dispatched}
 use Rattle.client.specs.declared.state.Broadcast.{Broadcast}
-use Rattle.client.proofs.Weighing.{length-to_all}
-use Rattle.protocol.specs.Clients.{from_client}
 use Rattle.server.specs.Receiving.{receive_checks}
 use Rattle.delivery.specs.Handing.{room_without, put_down, Replaced}
 use Rattle.network.proofs.Sending.{drop_later}
@@ -115,11 +113,6 @@ module _ {M : Type 0} (net : Network) (memory : List M) (place : ℕ) (fit : fit
   -- put back, the record is as it was before the message was lifted
   pub restored_as : restored net (length memory) ≡ put_down net
   restored_as = cond-true (fits net (length memory)) (put_down net) net fit
-
--- how many messages a broadcast is, if there is one
-pub length-messages : {S V : Type 0} (n client : ℕ) (x : Option (Broadcast S V)) → length (messages_of n client x) ≡ sending n x
-length-messages n client None = refl
-length-messages n client (Some x) = length-to_all n (λ server. from_client client server x.kind x.number x.timestamp x.value)
 
 -- with room, the checks of sending pass
 send_passes : (net : Network) (room more : ℕ) → Room net room more → first_failed (send_checks net room more) ≡ None

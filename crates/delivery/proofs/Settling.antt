@@ -18,9 +18,10 @@ use Rattle.client.specs.Taking.{sending}
 use Rattle.client.specs.Sending.{Dispatched}
 use Rattle.client.specs.declared.state.Client.{Client}
 use Rattle.client.specs.declared.state.Broadcast.{Broadcast}
+use Rattle.client.proofs.Weighing.{length-messages}
 use Rattle.delivery.specs.Parts.{server_reacts, ServersKept, Served, client_takes, ClientsKept, AttendedBy}
 use Rattle.delivery.specs.Handing.{room_without, Replaced, ServedOn, ToServer, ToClient}
-use Rattle.delivery.proofs.Queues.{room_settled, replaced, restored_as, length-messages, receive_passes}
+use Rattle.delivery.proofs.Queues.{room_settled, replaced, restored_as, receive_passes}
 
 -- settled, and followed by what goes to the servers
 pub sent_on : {S V : Type 0} (n client : ℕ) (x : Option (Broadcast S V)) (net net' net'' : Network) (memory memory' memory'' : List (Message S V)) (place : ℕ)

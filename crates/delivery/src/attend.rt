@@ -1,7 +1,6 @@
 // A message at its client, over the memory of all clients.
 ghost use Rattle.std.specs.Prelude.{◌≡◌, ℕ, ◌+◌, ◌*◌, ◌<◌, ◌≤◌, length};
-ghost use Rattle.reading.specs.Readings.{rules};
-ghost use Rattle.protocol.specs.Settings.{setting};
+ghost use Rattle.client.specs.Showing.{kinds_of};
 ghost use Rattle.delivery.specs.Parts.{ClientsKept, Attended};
 
 use calls::{Answer, Refusal};
@@ -24,8 +23,8 @@ pub(crate) fn attend<Q: QuorumSystem, S: Timestamp, V: Value>(
     requires client { message.client < length clients.old }
     requires server { message.server < Q.size system.now }
     requires part { message.client * (Q.size system.now * (Q.size system.now + 1)) + Q.size system.now * (Q.size system.now + 1) ≤ length reports.old }
-    ensures attended { (m : ℕ) → message.client < m → Attended (setting 0 0 0 (rules (Q.size system.now) (Q.quorum system.now) (Q.fail_prone system.now) S.above V.same) S.owner S.lowest S.successor V.initial_value) m clients.old reports.old message kind room result clients.new reports.new }
-    ensures kept { (m : ℕ) → message.client < m → ClientsKept (setting 0 0 0 (rules (Q.size system.now) (Q.quorum system.now) (Q.fail_prone system.now) S.above V.same) S.owner S.lowest S.successor V.initial_value) m clients.old reports.old message kind clients.new reports.new }
+    ensures attended { (m : ℕ) → message.client < m → Attended (kinds_of Q.QuorumSystem S.Timestamp V.Value system.now) m clients.old reports.old message kind room result clients.new reports.new }
+    ensures kept { (m : ℕ) → message.client < m → ClientsKept (kinds_of Q.QuorumSystem S.Timestamp V.Value system.now) m clients.old reports.old message kind clients.new reports.new }
 {
     let place = message.client as usize;
     let count = entries_for(system.servers());

@@ -2,9 +2,7 @@
 ghost use Rattle.std.specs.Prelude.{◌≡◌, ℕ, ◌+◌, ◌-◌, ◌*◌, ◌<◌, ◌≤◌, true, length, Some};
 ghost use Rattle.calls.specs.declared.Answer.TheVariants.{Refused};
 ghost use Rattle.network.specs.Queues.{fits, restored};
-ghost use Rattle.reading.specs.Readings.{rules};
-ghost use Rattle.protocol.specs.Settings.{setting};
-ghost use Rattle.client.specs.Showing.{messages_of};
+ghost use Rattle.client.specs.Showing.{kinds_of, messages_of};
 ghost use Rattle.delivery.specs.Handing.{room_without, Replaced, ServedOn, ToServer, ToClient};
 
 use crate::attend::attend;
@@ -128,7 +126,7 @@ pub(crate) fn hand_to_client<Q: QuorumSystem, S: Timestamp, V: Value>(
     requires server { message.server < Q.size system.now }
     requires part { message.client * (Q.size system.now * (Q.size system.now + 1)) + Q.size system.now * (Q.size system.now + 1) ≤ length reports.old }
     requires fits { fits network.old (length messages.old) ≡ true }
-    ensures { (m place : ℕ) → message.client < m → network.old.lifted ≡ Some place → ToClient (setting 0 0 0 (rules (Q.size system.now) (Q.quorum system.now) (Q.fail_prone system.now) S.above V.same) S.owner S.lowest S.successor V.initial_value) m clients.old reports.old network.old messages.old message kind place result clients.new reports.new network.new messages.new }
+    ensures { (m place : ℕ) → message.client < m → network.old.lifted ≡ Some place → ToClient (kinds_of Q.QuorumSystem S.Timestamp V.Value system.now) m clients.old reports.old network.old messages.old message kind place result clients.new reports.new network.new messages.new }
 {
     let room = room_without(*network);
     match attend(system, clients, reports, message, kind, room) {

@@ -1,5 +1,5 @@
 -- A client that begins an operation, over the memory of all clients. Assumes nothing.
-use Rattle.std.proofs.Common.{◌≡◌, ℕ, ◌+◌, ◌*◌, ◌<◌, ◌≤◌, not, ltb, leb, List, [], ◌∷◌, length, get_or, drop, set, replicate, Ok, Err, Result, sym, refl, ap, ◌∙◌, arith}
+use Rattle.std.proofs.Common.{◌≡◌, ℕ, ◌+◌, ◌*◌, ◌<◌, ◌≤◌, not, ltb, leb, List, [], ◌∷◌, length, get_or, drop, set, replicate, Ok, Err, Result, sym, refl, ap, ◌∙◌, arith, Option, None, Some}
 use borrow.Rule.Slice.PartMut.{put_mid}
 use Rattle.std.proofs.lemmas.List.{drop-set-lt, set-get_or, length-take-le, length-drop}
 use Rattle.std.proofs.lemmas.Slice.{take-put_mid_below, drop-put_mid}
@@ -69,7 +69,7 @@ module _ {S V : Type 0} (K : Setting S V) (cs : List (Client S V)) (ps : List (R
       → BegunWrite bare (K.lowest, K.initial) own c v room r x'
       → BegunAt K cs ps c (protocol.begins_write K c at_first v) room r (set cs c x') ps
   begun_write_at v (Ok given) x' begun =
-      let out : outcome_of K.rules.n c (record { client = x'; answer = given.0; dispatch = given.1 }) (shows known) ≡ protocol.begins_write K c at_first v =
+      let out : outcome_of K.rules.n c (record { client = x'; answer = given.0; broadcast = given.1 }) (shows known) ≡ protocol.begins_write K c at_first v =
       begun.1 (shows known) ∙ ap (λ x. protocol.begins_write K c x v) shown_as in (
         sym refuses_as ∙ begun.0,
         record {
@@ -95,7 +95,7 @@ module _ {S V : Type 0} (K : Setting S V) (cs : List (Client S V)) (ps : List (R
       × ReadReports K c ps r (put_mid (c * (K.rules.n * (K.rules.n + 1))) (K.rules.n * (K.rules.n + 1)) ps p')
   begun_read_at (Ok given) x' p' long begun =
       let size = K.rules.n * (K.rules.n + 1) in
-      let out : outcome_of K.rules.n c (record { client = x'; answer = given.0; dispatch = given.1 }) (shows p') ≡ protocol.begins_read K c at_first =
+      let out : outcome_of K.rules.n c (record { client = x'; answer = given.0; broadcast = given.1 }) (shows p') ≡ protocol.begins_read K c at_first =
       begun.1 ∙ ap (λ x. protocol.begins_read K c x) shown_as in (
         (
           sym refuses_as ∙ begun.0,
@@ -112,7 +112,7 @@ module _ {S V : Type 0} (K : Setting S V) (cs : List (Client S V)) (ps : List (R
             before = take-put_mid_below (c * size) size ps p' (c * size) (omega arith) (omega arith);
             behind = drop-put_mid (c * size) size ps p' (c * size + size) (omega arith) (omega arith) long;
           };
-          own = part_own size ps p' c inside long ∙ begun.2 ∙ ap (λ k. replicate k (K.lowest, K.initial)) known_long;
+          own = part_own size ps p' c inside long ∙ begun.2 ∙ ap (λ k. replicate k None) known_long;
         },
       )
   begun_read_at (Err e) x' p' long begun =

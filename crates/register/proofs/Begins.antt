@@ -20,7 +20,6 @@ use Rattle.client.specs.Showing.{messages_of}
 use Rattle.client.specs.Taking.{sending}
 use Rattle.client.specs.declared.state.Client.{Client}
 use Rattle.client.specs.declared.state.Broadcast.{Broadcast}
-use Rattle.client.specs.declared.state.Dispatch.TheVariants.{Nothing, ToAll}
 use Rattle.client.proofs.Weighing.{length-messages}
 use Rattle.delivery.specs.Memory.{Lent, lent, report_count, enough}
 use Rattle.delivery.proofs.Parts.{part_end}
@@ -32,8 +31,8 @@ use Rattle.register.proofs.Replies.{accepted, refusing}
 
 -- at most one message goes to each server
 sending_few : {S V : Type 0} (n : ℕ) (d : Option (Broadcast S V)) → sending n d ≤ n
-sending_few n Nothing = omega arith
-sending_few n (ToAll kind number timestamp value) = omega arith
+sending_few n None = omega arith
+sending_few n (Some x) = omega arith
 
 module _ {Q S V : Type 0} (K : Setting S V) (g : Register Q) (x : Lent S V) (much : enough K g.len x ≡ true) (last : K.most ≡ 4294967295) (c : ℕ) where
   -- the client before

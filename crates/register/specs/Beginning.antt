@@ -41,7 +41,7 @@ module _ {S V : Type 0} (K : Setting S V) where
   -- a client's reports are all blank, and the others as they were
   pub record BlankFor (c : ℕ) (reports reports' : List (Report S V)) : Type 0 where
     pub only : OnlyOf K c reports reports'
-    pub own : part (report_count K) reports' c ≡ replicate (report_count K) (K.lowest, K.initial)
+    pub own : part (report_count K) reports' c ≡ replicate (report_count K) None
 
   -- the reports after a read began; refused: as they were
   abbrev pub ReadReports : ℕ → List (Report S V) → Result (Answer S V × Option (Broadcast S V)) Refusal → List (Report S V) → Type 0

@@ -9,7 +9,10 @@ use Rattle.calls.specs.declared.Refusal.TheVariants.{Memory}
 use Rattle.network.specs.declared.queue.Network.{Network}
 use Rattle.quorums.specs.declared.sets.ServerSet.{ServerSet}
 use Rattle.server.specs.Serving.{silent}
-use Rattle.protocol.specs.Settings.{Setting}
+use Rattle.quorums.specs.declared.QuorumSystem.{Ghosts as QuorumGhosts}
+use Rattle.timestamps.specs.declared.Timestamp.{Ghosts as TimestampGhosts}
+use Rattle.values.specs.declared.Value.{Ghosts as ValueGhosts}
+use Rattle.protocol.specs.Settings.{Setting, setting_of}
 use Rattle.protocol.specs.Protocol.{State, Reply, lift, step, opened}
 use Rattle.delivery.specs.Memory.{Lent, new_server, new_client, state_in, enough}
 use Rattle.delivery.specs.Answering.{Called, ReportsAfter}
@@ -23,6 +26,10 @@ with_queue g len faulty = record { system = g.system; clients = g.clients; capac
 -- the network's own record, with no message lifted
 abbrev pub network_of : {Q : Type 0} → Register Q → Network
 network_of g = record { capacity = g.capacity; len = g.len; lifted = None }
+
+-- the setting of a register over kinds of timestamps and values
+abbrev pub kinds : {Q S V : Type 0} → QuorumGhosts Q → TimestampGhosts S → ValueGhosts V → Register Q → Setting S V
+kinds quorums timestamps values g = setting_of quorums timestamps values g.system g.clients g.capacity 4294967295
 
 module _ {Q S V : Type 0} (K : Setting S V) where
   -- a register and its memory as the protocol sees them

@@ -1,17 +1,13 @@
 // The register delivers a message, and answers any call.
-ghost use Rattle.reading.specs.Readings.{rules};
-ghost use Rattle.protocol.specs.Settings.{setting};
-ghost use Rattle.delivery.specs.Memory.{lent};
-ghost use Rattle.register.specs.Calling.{Answers, DeliverAnswers};
+ghost use Rattle.delivery.specs.Memory.{SameLoans, contents};
+ghost use Rattle.register.specs.Calling.{kinds, Answers, DeliverAnswers};
 
 use crate::record::Register;
 use calls::{Answer, Call};
-use client::state::Client;
 use delivery::deliver::deliver;
+use delivery::memory::Memory;
 use network::message::Message;
 use quorums::QuorumSystem;
-use reading::reports::Report;
-use server::state::{Listener, Server};
 use timestamps::Timestamp;
 use values::Value;
 
@@ -19,14 +15,11 @@ impl<Q: QuorumSystem> Register<Q> {
     // Hands over the message at a place of the queue, from 0.
     pub fn deliver<S: Timestamp, V: Value>(
         &mut self,
-        servers: &mut [Server<S, V>],
-        clients: &mut [Client<S, V>],
-        listeners: &mut [Listener<S>],
-        messages: &mut [Message<S, V>],
-        reports: &mut [Report<S, V>],
+        memory: &mut Memory<'_, S, V>,
         place: usize,
     ) -> Answer<S, V>
-        ensures { DeliverAnswers (setting self.old.clients self.old.capacity 4294967295 (rules (Q.size self.old.system) (Q.quorum self.old.system) (Q.fail_prone self.old.system) S.above V.same) S.owner S.lowest S.successor V.initial_value) self.old (lent servers.old clients.old listeners.old messages.old reports.old) place result self.new (lent servers.new clients.new listeners.new messages.new reports.new) }
+        ensures loans { SameLoans memory.old memory.new }
+        ensures answers { DeliverAnswers (kinds Q.QuorumSystem S.Timestamp V.Value self.old) self.old (contents memory.old) place result self.new (contents memory.new) }
     {
         let mut len = self.len;
         let answer = deliver(
@@ -35,11 +28,7 @@ impl<Q: QuorumSystem> Register<Q> {
             self.capacity,
             self.faulty,
             &mut len,
-            servers,
-            clients,
-            listeners,
-            messages,
-            reports,
+            memory,
             place,
         );
         self.len = len;
@@ -49,28 +38,17 @@ impl<Q: QuorumSystem> Register<Q> {
     // Answers a call.
     pub fn answer<S: Timestamp, V: Value>(
         &mut self,
-        servers: &mut [Server<S, V>],
-        clients: &mut [Client<S, V>],
-        listeners: &mut [Listener<S>],
-        messages: &mut [Message<S, V>],
-        reports: &mut [Report<S, V>],
+        memory: &mut Memory<'_, S, V>,
         call: Call<S, V>,
     ) -> Answer<S, V>
-        ensures { Answers (setting self.old.clients self.old.capacity 4294967295 (rules (Q.size self.old.system) (Q.quorum self.old.system) (Q.fail_prone self.old.system) S.above V.same) S.owner S.lowest S.successor V.initial_value) self.old (lent servers.old clients.old listeners.old messages.old reports.old) call result self.new (lent servers.new clients.new listeners.new messages.new reports.new) }
+        ensures loans { SameLoans memory.old memory.new }
+        ensures answers { Answers (kinds Q.QuorumSystem S.Timestamp V.Value self.old) self.old (contents memory.old) call result self.new (contents memory.new) }
     {
         match call {
-            Call::Write { client, value } => self.write(
-                servers, clients, listeners, messages, reports, client, value,
-            ),
-            Call::Read { client } => {
-                self.read(servers, clients, listeners, messages, reports, client)
-            }
-            Call::Deliver { place } => {
-                self.deliver(servers, clients, listeners, messages, reports, place)
-            }
-            Call::Turn { server } => {
-                self.turn(servers, clients, listeners, messages, reports, server)
-            }
+            Call::Write { client, value } => self.write(memory, client, value),
+            Call::Read { client } => self.read(memory, client),
+            Call::Deliver { place } => self.deliver(memory, place),
+            Call::Turn { server } => self.turn(memory, server),
             Call::Forge {
                 server,
                 client,
@@ -87,7 +65,7 @@ impl<Q: QuorumSystem> Register<Q> {
                     timestamp,
                     value,
                 };
-                self.forge(servers, clients, listeners, messages, reports, message)
+                self.forge(memory, message)
             }
         }
     }

@@ -1,7 +1,6 @@
 // A client of the register begins an operation, over the memory of all clients.
 ghost use Rattle.std.specs.Prelude.{◌≡◌, ℕ, ◌+◌, ◌*◌, ◌<◌, ◌≤◌, length};
-ghost use Rattle.reading.specs.Readings.{rules};
-ghost use Rattle.protocol.specs.Settings.{setting};
+ghost use Rattle.protocol.specs.Settings.{setting_of};
 ghost use Rattle.protocol.specs.Clients.{begins_write, begins_read};
 ghost use Rattle.delivery.specs.Parts.{clients_in};
 ghost use Rattle.register.specs.Beginning.{BegunAt, ReadReports};
@@ -22,7 +21,7 @@ pub(crate) fn begin_write_at<Q: QuorumSystem, S: Timestamp, V: Value>(
     room: usize,
 ) -> Result<(Answer<S, V>, Option<Broadcast<S, V>>), Refusal>
     requires { client < length clients.old }
-    ensures { (m capacity most : ℕ) (reports : _) → client < m → client * (Q.size system.now * (Q.size system.now + 1)) + Q.size system.now * (Q.size system.now + 1) ≤ length reports → BegunAt (setting m capacity most (rules (Q.size system.now) (Q.quorum system.now) (Q.fail_prone system.now) S.above V.same) S.owner S.lowest S.successor V.initial_value) clients.old reports client (begins_write (setting m capacity most (rules (Q.size system.now) (Q.quorum system.now) (Q.fail_prone system.now) S.above V.same) S.owner S.lowest S.successor V.initial_value) client (clients_in (setting m capacity most (rules (Q.size system.now) (Q.quorum system.now) (Q.fail_prone system.now) S.above V.same) S.owner S.lowest S.successor V.initial_value) m clients.old reports client) value) room result clients.new reports }
+    ensures { (m capacity most : ℕ) (reports : _) → client < m → client * (Q.size system.now * (Q.size system.now + 1)) + Q.size system.now * (Q.size system.now + 1) ≤ length reports → BegunAt (setting_of Q.QuorumSystem S.Timestamp V.Value system.now m capacity most) clients.old reports client (begins_write (setting_of Q.QuorumSystem S.Timestamp V.Value system.now m capacity most) client (clients_in (setting_of Q.QuorumSystem S.Timestamp V.Value system.now m capacity most) m clients.old reports client) value) room result clients.new reports }
 {
     let place = client as usize;
     clients[place].begin_write(system, client, value, room)
@@ -38,7 +37,7 @@ pub(crate) fn begin_read_at<Q: QuorumSystem, S: Timestamp, V: Value>(
 ) -> Result<(Answer<S, V>, Option<Broadcast<S, V>>), Refusal>
     requires client { client < length clients.old }
     requires part { client * (Q.size system.now * (Q.size system.now + 1)) + Q.size system.now * (Q.size system.now + 1) ≤ length reports.old }
-    ensures { (m capacity most : ℕ) → client < m → BegunAt (setting m capacity most (rules (Q.size system.now) (Q.quorum system.now) (Q.fail_prone system.now) S.above V.same) S.owner S.lowest S.successor V.initial_value) clients.old reports.old client (begins_read (setting m capacity most (rules (Q.size system.now) (Q.quorum system.now) (Q.fail_prone system.now) S.above V.same) S.owner S.lowest S.successor V.initial_value) client (clients_in (setting m capacity most (rules (Q.size system.now) (Q.quorum system.now) (Q.fail_prone system.now) S.above V.same) S.owner S.lowest S.successor V.initial_value) m clients.old reports.old client)) room result clients.new reports.new × ReadReports (setting m capacity most (rules (Q.size system.now) (Q.quorum system.now) (Q.fail_prone system.now) S.above V.same) S.owner S.lowest S.successor V.initial_value) client reports.old result reports.new }
+    ensures { (m capacity most : ℕ) → client < m → BegunAt (setting_of Q.QuorumSystem S.Timestamp V.Value system.now m capacity most) clients.old reports.old client (begins_read (setting_of Q.QuorumSystem S.Timestamp V.Value system.now m capacity most) client (clients_in (setting_of Q.QuorumSystem S.Timestamp V.Value system.now m capacity most) m clients.old reports.old client)) room result clients.new reports.new × ReadReports (setting_of Q.QuorumSystem S.Timestamp V.Value system.now m capacity most) client reports.old result reports.new }
 {
     let place = client as usize;
     let count = entries_for(system.servers());

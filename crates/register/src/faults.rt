@@ -1,23 +1,21 @@
 // What a register is told of faulty servers: that one is faulty from now on, and what it sends.
 ghost use Rattle.std.specs.Prelude.{◌≡◌, ◌+◌, ◌<◌, length, slice_set};
+ghost use Rattle.calls.specs.Answers.{answer_of};
+ghost use Rattle.calls.specs.Refusals.{passed};
+ghost use Rattle.calls.specs.declared.Call.TheVariants.{Turn, Forge};
 ghost use Rattle.network.specs.Kinds.{kind_of};
 ghost use Rattle.protocol.specs.Protocol.{may_be_sent};
-ghost use Rattle.calls.specs.declared.Call.TheVariants.{Turn, Forge};
-ghost use Rattle.reading.specs.Readings.{rules};
-ghost use Rattle.protocol.specs.Settings.{setting};
-ghost use Rattle.delivery.specs.Memory.{lent};
-ghost use Rattle.register.specs.Calling.{with_queue, Answers};
+ghost use Rattle.delivery.specs.Memory.{SameLoans, contents};
+ghost use Rattle.register.specs.Calling.{kinds, with_queue, Answers};
 ghost use Rattle.register.specs.Faults.{turn_refusal, forge_refusal};
 
 use crate::record::Register;
 use calls::{Answer, Refusal};
-use client::state::Client;
 use delivery::deliver::is_from_server;
+use delivery::memory::Memory;
 use network::message::{Kind, Message};
 use quorums::QuorumSystem;
 use quorums::sets::ServerSet;
-use reading::reports::Report;
-use server::state::{Listener, Server};
 use timestamps::Timestamp;
 use values::Value;
 
@@ -25,71 +23,66 @@ use values::Value;
 fn may_be_sent(byte: u8) -> bool
     ensures { result ≡ may_be_sent (kind_of byte) }
 {
-    match Kind::try_from(byte) {
-        Ok(kind) => is_from_server(kind),
-        Err(_) => false,
-    }
+    Kind::try_from(byte).is_ok_and(is_from_server)
 }
 
 impl<Q: QuorumSystem> Register<Q> {
-    // Why a server may not turn faulty, if it may not.
-    fn refuses_turn(&self, server: u8, faulty: ServerSet) -> Option<Refusal>
-        ensures { result ≡ turn_refusal (Q.size self.now.system) (Q.fail_prone self.now.system) server faulty }
+    // The server may turn faulty, so that these are the faulty ones.
+    fn check_turn(&self, server: u8, faulty: ServerSet) -> Result<(), Refusal>
+        ensures { result ≡ passed (turn_refusal (Q.size self.now.system) (Q.fail_prone self.now.system) server faulty) }
     {
         if server >= self.system.servers() {
-            return Some(Refusal::NoServer);
+            return Err(Refusal::NoServer);
         }
         if !self.system.is_fail_prone(faulty) {
-            return Some(Refusal::NotFailProne);
+            return Err(Refusal::NotFailProne);
         }
-        None
+        Ok(())
     }
 
     // A server is faulty from now on; a second time it does nothing.
     pub fn turn<S: Timestamp, V: Value>(
         &mut self,
-        servers: &[Server<S, V>],
-        clients: &[Client<S, V>],
-        listeners: &[Listener<S>],
-        messages: &[Message<S, V>],
-        reports: &[Report<S, V>],
+        memory: &Memory<'_, S, V>,
         server: u8,
     ) -> Answer<S, V>
-        ensures { Answers (setting self.old.clients self.old.capacity 4294967295 (rules (Q.size self.old.system) (Q.quorum self.old.system) (Q.fail_prone self.old.system) S.above V.same) S.owner S.lowest S.successor V.initial_value) self.old (lent servers.now clients.now listeners.now messages.now reports.now) (Turn server) result self.new (lent servers.now clients.now listeners.now messages.now reports.now) }
+        ensures { Answers (kinds Q.QuorumSystem S.Timestamp V.Value self.old) self.old (contents memory.now) (Turn server) result self.new (contents memory.now) }
     {
-        if !self.goes_with(servers, clients, listeners, messages, reports) {
-            return Answer::Refused(Refusal::Memory);
-        }
-        let faulty = self.faulty.with(server);
-        match self.refuses_turn(server, faulty) {
-            Some(refusal) => Answer::Refused(refusal),
-            None => {
-                self.faulty = faulty;
-                Answer::Turned
-            }
-        }
+        Answer::from(self.try_turn(memory, server))
     }
 
-    // Why a message of these names and this kind is not sent by a faulty server, if it is not.
-    fn refuses_forging(&self, server: u8, client: u8, kind: u8) -> Option<Refusal>
-        ensures { result ≡ forge_refusal (Q.size self.now.system) self.now.clients self.now.capacity self.now.len self.now.faulty server client kind }
+    fn try_turn<S: Timestamp, V: Value>(
+        &mut self,
+        memory: &Memory<'_, S, V>,
+        server: u8,
+    ) -> Result<Answer<S, V>, Refusal>
+        ensures { Answers (kinds Q.QuorumSystem S.Timestamp V.Value self.old) self.old (contents memory.now) (Turn server) (answer_of result) self.new (contents memory.now) }
+    {
+        self.check_memory(memory)?;
+        let faulty = self.faulty.with(server);
+        self.check_turn(server, faulty)?;
+        self.faulty = faulty;
+        Ok(Answer::Turned)
+    }
+
+    // A message of these names and this kind may be sent by a faulty server.
+    fn check_forging(&self, server: u8, client: u8, kind: u8) -> Result<(), Refusal>
+        ensures { result ≡ passed (forge_refusal (Q.size self.now.system) self.now.clients self.now.capacity self.now.len self.now.faulty server client kind) }
     {
         if server >= self.system.servers() {
-            return Some(Refusal::NoServer);
+            return Err(Refusal::NoServer);
         }
-        if client as usize >= self.clients {
-            return Some(Refusal::NoClient);
-        }
+        self.check_client(client)?;
         if !self.faulty.contains(server) {
-            return Some(Refusal::ServerCorrect);
+            return Err(Refusal::ServerCorrect);
         }
         if !may_be_sent(kind) {
-            return Some(Refusal::NotServerKind);
+            return Err(Refusal::NotServerKind);
         }
         if self.len >= self.capacity {
-            return Some(Refusal::NetworkFull);
+            return Err(Refusal::NetworkFull);
         }
-        None
+        Ok(())
     }
 
     // Puts a message behind the others.
@@ -109,24 +102,26 @@ impl<Q: QuorumSystem> Register<Q> {
     // A faulty server sends a message, with all fields as given.
     pub fn forge<S: Timestamp, V: Value>(
         &mut self,
-        servers: &[Server<S, V>],
-        clients: &[Client<S, V>],
-        listeners: &[Listener<S>],
-        messages: &mut [Message<S, V>],
-        reports: &[Report<S, V>],
+        memory: &mut Memory<'_, S, V>,
         message: Message<S, V>,
     ) -> Answer<S, V>
-        ensures { Answers (setting self.old.clients self.old.capacity 4294967295 (rules (Q.size self.old.system) (Q.quorum self.old.system) (Q.fail_prone self.old.system) S.above V.same) S.owner S.lowest S.successor V.initial_value) self.old (lent servers.now clients.now listeners.now messages.old reports.now) (Forge message.server message.client message.kind message.number message.timestamp message.value) result self.new (lent servers.now clients.now listeners.now messages.new reports.now) }
+        ensures loans { SameLoans memory.old memory.new }
+        ensures answers { Answers (kinds Q.QuorumSystem S.Timestamp V.Value self.old) self.old (contents memory.old) (Forge message.server message.client message.kind message.number message.timestamp message.value) result self.new (contents memory.new) }
     {
-        if !self.goes_with(servers, clients, listeners, messages, reports) {
-            return Answer::Refused(Refusal::Memory);
-        }
-        match self.refuses_forging(message.server, message.client, message.kind) {
-            Some(refusal) => Answer::Refused(refusal),
-            None => {
-                self.post(messages, message);
-                Answer::Forged
-            }
-        }
+        Answer::from(self.try_forge(memory, message))
+    }
+
+    fn try_forge<S: Timestamp, V: Value>(
+        &mut self,
+        memory: &mut Memory<'_, S, V>,
+        message: Message<S, V>,
+    ) -> Result<Answer<S, V>, Refusal>
+        ensures loans { SameLoans memory.old memory.new }
+        ensures answers { Answers (kinds Q.QuorumSystem S.Timestamp V.Value self.old) self.old (contents memory.old) (Forge message.server message.client message.kind message.number message.timestamp message.value) (answer_of result) self.new (contents memory.new) }
+    {
+        self.check_memory(memory)?;
+        self.check_forging(message.server, message.client, message.kind)?;
+        self.post(memory.messages, message);
+        Ok(Answer::Forged)
     }
 }

@@ -1,17 +1,15 @@
 // A register is opened: its record, and its memory set up.
 ghost use Rattle.std.specs.Prelude.{◌≡◌, ◌*◌, ◌≤◌, ◌++◌, length, drop, replicate};
-ghost use Rattle.reading.specs.Readings.{rules};
-ghost use Rattle.protocol.specs.Settings.{setting};
-ghost use Rattle.delivery.specs.Memory.{lent};
+ghost use Rattle.protocol.specs.Settings.{setting_of};
+ghost use Rattle.delivery.specs.Memory.{SameLoans, contents};
 ghost use Rattle.register.specs.Calling.{Opened};
 
 use crate::record::Register;
 use calls::Refusal;
 use client::state::Client;
-use network::message::Message;
+use delivery::memory::Memory;
 use quorums::QuorumSystem;
 use quorums::sets::ServerSet;
-use reading::reports::Report;
 use server::state::{Listener, Server};
 use timestamps::Timestamp;
 use values::Value;
@@ -21,8 +19,8 @@ fn reset<T: Copy>(memory: &mut [T], count: usize, value: T)
     requires { count ≤ length memory.old }
     ensures { memory.new ≡ replicate count value ++ drop count memory.old }
 {
-    for i in 0..count {
-        memory[i] = value;
+    for entry in memory[..count].iter_mut() {
+        *entry = value;
     }
 }
 
@@ -40,13 +38,10 @@ impl<Q: QuorumSystem> Register<Q> {
         system: Q,
         m: usize,
         capacity: usize,
-        servers: &mut [Server<S, V>],
-        clients: &mut [Client<S, V>],
-        listeners: &mut [Listener<S>],
-        messages: &[Message<S, V>],
-        reports: &[Report<S, V>],
+        memory: &mut Memory<'_, S, V>,
     ) -> Result<Register<Q>, Refusal>
-        ensures { Opened (setting m capacity 4294967295 (rules (Q.size system) (Q.quorum system) (Q.fail_prone system) S.above V.same) S.owner S.lowest S.successor V.initial_value) system (lent servers.old clients.old listeners.old messages.now reports.now) result (lent servers.new clients.new listeners.new messages.now reports.now) }
+        ensures loans { SameLoans memory.old memory.new }
+        ensures opened { Opened (setting_of Q.QuorumSystem S.Timestamp V.Value system m capacity 4294967295) system (contents memory.old) result (contents memory.new) }
     {
         let register = Register {
             system,
@@ -55,13 +50,11 @@ impl<Q: QuorumSystem> Register<Q> {
             len: 0,
             faulty: ServerSet::empty(),
         };
-        if !register.goes_with(servers, clients, listeners, messages, reports) {
-            return Err(Refusal::Memory);
-        }
+        register.check_memory(memory)?;
         let n = system.servers();
-        reset(servers, n as usize, Server::initial());
-        reset(clients, m, Client::initial());
-        reset(listeners, listener_count(n, m), Listener::silent());
+        reset(memory.servers, n as usize, Server::initial());
+        reset(memory.clients, m, Client::initial());
+        reset(memory.listeners, listener_count(n, m), Listener::silent());
         Ok(register)
     }
 }

@@ -1,7 +1,6 @@
 // A register is opened and a whole list of calls is played on it.
 ghost use Rattle.std.specs.Prelude.{◌≡◌, ◌<◌, ◌≤◌, true, length, slice_set};
-ghost use Rattle.reading.specs.Readings.{rules};
-ghost use Rattle.protocol.specs.Settings.{setting};
+ghost use Rattle.protocol.specs.Settings.{setting_of};
 ghost use Rattle.protocol.specs.Protocol.{opened};
 ghost use Rattle.delivery.specs.Memory.{lent, enough};
 ghost use Rattle.register.specs.Calling.{state_of};
@@ -37,9 +36,9 @@ fn play_all<Q: QuorumSystem, S: Timestamp, V: Value>(
     answers: &mut [Answer<S, V>],
 )
     requires room { length calls.now ≤ length answers.old }
-    requires fits { enough (setting register.old.clients register.old.capacity 4294967295 (rules (Q.size register.old.system) (Q.quorum register.old.system) (Q.fail_prone register.old.system) S.above V.same) S.owner S.lowest S.successor V.initial_value) register.old.len (lent servers.old clients.old listeners.old messages.old reports.old) ≡ true }
-    requires fresh { state_of (setting register.old.clients register.old.capacity 4294967295 (rules (Q.size register.old.system) (Q.quorum register.old.system) (Q.fail_prone register.old.system) S.above V.same) S.owner S.lowest S.successor V.initial_value) register.old (lent servers.old clients.old listeners.old messages.old reports.old) ≡ opened (setting register.old.clients register.old.capacity 4294967295 (rules (Q.size register.old.system) (Q.quorum register.old.system) (Q.fail_prone register.old.system) S.above V.same) S.owner S.lowest S.successor V.initial_value) }
-    ensures { Playing (setting register.old.clients register.old.capacity 4294967295 (rules (Q.size register.old.system) (Q.quorum register.old.system) (Q.fail_prone register.old.system) S.above V.same) S.owner S.lowest S.successor V.initial_value) calls.now register.old (lent servers.old clients.old listeners.old messages.old reports.old) answers.old register.new (lent servers.new clients.new listeners.new messages.new reports.new) answers.new }
+    requires fits { enough (setting_of Q.QuorumSystem S.Timestamp V.Value register.old.system register.old.clients register.old.capacity 4294967295) register.old.len (lent servers.old clients.old listeners.old messages.old reports.old) ≡ true }
+    requires fresh { state_of (setting_of Q.QuorumSystem S.Timestamp V.Value register.old.system register.old.clients register.old.capacity 4294967295) register.old (lent servers.old clients.old listeners.old messages.old reports.old) ≡ opened (setting_of Q.QuorumSystem S.Timestamp V.Value register.old.system register.old.clients register.old.capacity 4294967295) }
+    ensures { Playing (setting_of Q.QuorumSystem S.Timestamp V.Value register.old.system register.old.clients register.old.capacity 4294967295) calls.now register.old (lent servers.old clients.old listeners.old messages.old reports.old) answers.old register.new (lent servers.new clients.new listeners.new messages.new reports.new) answers.new }
 {
     for (i, call) in calls.iter().enumerate() {
         let answer = register.answer(servers, clients, listeners, messages, reports, *call);
@@ -62,7 +61,7 @@ pub fn play<Q: QuorumSystem, S: Timestamp, V: Value>(
     calls: &[Call<S, V>],
     answers: &mut [Answer<S, V>],
 ) -> Result<Register<Q>, Refusal>
-    ensures { Played (setting m capacity 4294967295 (rules (Q.size system) (Q.quorum system) (Q.fail_prone system) S.above V.same) S.owner S.lowest S.successor V.initial_value) system calls.now (lent servers.old clients.old listeners.old messages.old reports.old) answers.old result (lent servers.new clients.new listeners.new messages.new reports.new) answers.new }
+    ensures { Played (setting_of Q.QuorumSystem S.Timestamp V.Value system m capacity 4294967295) system calls.now (lent servers.old clients.old listeners.old messages.old reports.old) answers.old result (lent servers.new clients.new listeners.new messages.new reports.new) answers.new }
 {
     if answers.len() < calls.len() {
         return Err(Refusal::Memory);

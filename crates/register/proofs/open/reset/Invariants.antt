@@ -1,5 +1,5 @@
 use Rattle.std.proofs.Common.{◌≡◌, ◌++◌, drop, replicate}
 use Rattle.register.proofs.open.reset.Given as goal
 
-abbrev pub invariant-loop-i : goal.invariant-loop-i
-invariant-loop-i g l = l.memory ≡ replicate l.i l.value ++ drop l.i l.initial.memory
+abbrev pub invariant-loop-entry : goal.invariant-loop-entry
+invariant-loop-entry g l = l.entry-items ≡ replicate l.entry-index l.value ++ drop l.entry-index l.initial.entry-items
