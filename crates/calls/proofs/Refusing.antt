@@ -1,4 +1,4 @@
--- The answer of a call that is refused. Assumes nothing.
+-- A call that is refused: its result and its answer. Assumes nothing.
 use Rattle.std.proofs.Common.{◌≡◌, Ok, Err, Result, ap}
 use Rattle.std.specs.Result.{IsErrAnd}
 use Rattle.calls.specs.Answers.{answer_of}
@@ -10,3 +10,8 @@ use Rattle.calls.specs.declared.Refusal.{Refusal}
 pub refused_as : {S V : Type 0} (r : Result (Answer S V) Refusal) (e : Refusal) → IsErrAnd r (λ x. x ≡ e) → answer_of r ≡ Refused e
 refused_as (Ok answer) e is = absurd is
 refused_as (Err x) e is = ap Refused is
+
+-- an error that is known
+pub err_as : {T E : Type 0} (r : Result T E) (e : E) → IsErrAnd r (λ x. x ≡ e) → r ≡ Err e
+err_as (Ok x) e is = absurd is
+err_as (Err x) e is = ap Err is

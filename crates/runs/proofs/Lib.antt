@@ -1,2 +1,3 @@
+mod Loans
 pub mod Turns
 pub mod Whole
