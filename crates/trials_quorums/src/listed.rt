@@ -108,11 +108,9 @@ fn answers_for_two_servers_or_one(rt: HostRuntime) -> Result<(), Fail> {
         false, false, false, false, false, false, false, false, false, false, false, true, true,
         true, true, true,
     ];
-    for (mask, is_quorum) in quorums.iter().enumerate() {
-        assert!(rt; mask < 16);
-        let servers = mask as u16;
-        assert_eq!(rt; system.is_quorum(set(servers)), *is_quorum);
-        assert_eq!(rt; system.is_quorum(set(0xfff0 | servers)), *is_quorum);
+    for (servers, is_quorum) in (0..16u16).zip(quorums) {
+        assert_eq!(rt; system.is_quorum(set(servers)), is_quorum);
+        assert_eq!(rt; system.is_quorum(set(0xfff0 | servers)), is_quorum);
         // those with 0 and 1 only, or with 2 only, are fail-prone
         assert_eq!(rt; system.is_fail_prone(set(servers)), servers <= 4);
         assert_eq!(rt; system.is_fail_prone(set(0xfff0 | servers)), servers <= 4);
