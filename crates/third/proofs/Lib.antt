@@ -1,1 +1,2 @@
 mod PassedOn
+mod Each

@@ -2,12 +2,12 @@
 use Rattle.std.proofs.Common.{◌≡◌, ℕ, ◌+◌, ◌-◌, ◌<◌, ◌≤◌, Bool, true, false, cond, not, ◌&&◌, ltb, leb, List, [], ◌∷◌, length, set, Some, None, Ok, Err, Option, Result, sym, refl, ap, ◌∙◌, subst, arith}
 use Rattle.std.proofs.lemmas.List.{length-set, get_or-set_same}
 use Rattle.std.proofs.lemmas.Bool.{true≢false, and_from, and_parts, cond-true, le-leb, leb-true, leb-false, lt-leb, lt-ltb}
+use Rattle.std.proofs.lemmas.Grind.{common_steps}
 use Rattle.calls.proofs.Checks.{passes_first}
 use Rattle.calls.specs.Refusals.{first_failed}
 use Rattle.calls.specs.declared.Refusal.{Refusal}
 use Rattle.calls.specs.declared.Refusal.TheVariants.{Memory, NetworkFull, NoMessage, TokenOut}
-use Rattle.network.proofs.Closing.{close_start, close_all}
-use Rattle.network.specs.Queues.{sized, fits, post_checks, take_checks, longer, lifted_at, closed_at, without, Posted}
+use Rattle.network.specs.Queues.{sized, fits, post_checks, take_checks, longer, lifted_at, closed, closed_at, without, Posted}
 use Rattle.network.specs.declared.queue.Network.{Network}
 use Rattle.third.specs.Passing.{TakenOut, Passed}
 
@@ -45,6 +45,10 @@ take_passes capacity len room size low =
     ap (λ t. cond (not t) (Some Memory) (cond (leb (len + 1) len) (Some NoMessage) None)) (longer_fits capacity len room size low)
     ∙ ap (λ t. cond t (Some NoMessage) None) (lt-leb (len + 1) len (omega arith))
 
+-- closed up over its last message, a queue leaves the memory as it is
+last_closed : {M : Type 0} (row : List M) (len : ℕ) → len < length row → closed row len (len + 1) ≡ row
+last_closed row len inside = grind (arith, common_steps)
+
 -- taken out, the queue is as it was before the post
 taken_out : {M : Type 0} (capacity len : ℕ) (memory : List M) (m : M) (r : Result M Refusal) (net' : Network) (memory' : List M)
     → first_failed (post_checks (idle capacity len) (length memory)) ≡ None
@@ -61,7 +65,7 @@ taken_out capacity len memory m (Ok taken) net' memory' ok t =
       t.1 ∙ get_or-set_same memory len m taken inside,
       t.2 ∙ cond-true (fits net (length row)) (without (Some len) net) net fit ∙ ap (idle capacity) same,
       t.3 ∙ cond-true (fits net (length row)) (closed_at (Some len) (len + 1) row) row fit
-          ∙ sym (close_all row row len len (len + 1) refl (close_start row len (omega (arith, long, inside))) refl),
+          ∙ last_closed row len (omega (arith, long, inside)),
     )
 taken_out capacity len memory m (Err e) net' memory' ok t =
     let room = posted_room capacity len (length memory) ok in

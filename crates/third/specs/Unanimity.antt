@@ -1,9 +1,9 @@
 -- The unanimous system: a quorum has all servers, and a fail-prone set none.
-use Rattle.std.specs.Prelude.{◌≡◌, ℕ, zero, suc, Bool, true, ◌&&◌, ◌||◌, List, [], ◌∷◌, Some, None, Ok, Err, Result, ◌==◌, nat_lt}
+use Rattle.std.specs.Prelude.{◌≡◌, ℕ, zero, suc, Bool, true, ◌&&◌, List, [], ◌∷◌, Some, None, Ok, Err, Result}
 use Rattle.calls.specs.Refusals.{Check, first_failed}
 use Rattle.calls.specs.declared.Refusal.{Refusal}
 use Rattle.calls.specs.declared.Refusal.TheVariants.{SystemSize}
-use Rattle.quorums.specs.Sets.{Set, outside}
+use Rattle.quorums.specs.Sets.{Set, outside, refused_size}
 use Rattle.third.specs.declared.unanimous.Unanimous.{Unanimous}
 
 -- whether each of the servers 0 .. n-1 is in the set
@@ -25,7 +25,7 @@ unanimous_fail_prone q s = each q.n (outside s)
 
 -- the one check: that n is 1 to 16
 abbrev pub unanimous_checks : ℕ → List Check
-unanimous_checks n = (n == 0 || nat_lt 16 n, SystemSize) ∷ []
+unanimous_checks n = (refused_size n, SystemSize) ∷ []
 
 -- what opening a unanimous system answers: the system of n servers where the check passes, and else its refusal
 abbrev pub Opened : ℕ → Result Unanimous Refusal → Type 0

@@ -29,14 +29,14 @@ version_number : (s : Version) → version s.number ≡ Some s
 version_number s = when_true s (nat_lt s.number (2 ^ 8)) (leb→le (suc s.number) (2 ^ 8)) (lt-ltb s.number (2 ^ 8) s.fits)
 
 -- no version has a number from 2 ^ 8 on
-version_none : (n : ℕ) → 2 ^ 8 ≤ n → version n ≡ None
+pub version_none : (n : ℕ) → 2 ^ 8 ≤ n → version n ≡ None
 version_none n h = when_false n (nat_lt n (2 ^ 8)) (leb→le (suc n) (2 ^ 8)) (le-ltb n (2 ^ 8) h)
 
 -- the version of the number after both is the successor
 pub version_next : (client : ℕ) (a b s : Version) → client ≡ 0 → s.number ≡ (higher version_above a b).number + 1 → version_successor client a b ≡ Some s
 version_next client a b s h e = cond-true (client == 0) _ None (eq-eqb client 0 h) ∙ ap version (sym e) ∙ version_number s
 
-other_client : (client : ℕ) → 1 ≤ client → (client == 0) ≡ false
+pub other_client : (client : ℕ) → 1 ≤ client → (client == 0) ≡ false
 other_client client h = grind (arith, nat_tests)
 
 -- what is above the higher of two is above both, and the other way round

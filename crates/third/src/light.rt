@@ -24,13 +24,6 @@ impl Value for Light {
     }
 
     fn is_same(self, other: Light) -> bool {
-        match (self, other) {
-            (Light::Off, Light::Off) => true,
-            (Light::On, Light::On) => true,
-            (Light::Broken, Light::Broken) => true,
-            (Light::Off, _) => false,
-            (Light::On, _) => false,
-            (Light::Broken, _) => false,
-        }
+        self == other
     }
 }

@@ -17,10 +17,8 @@ pub fn pass_through<S: Copy, V: Copy>(
     ensures { Passed network.old memory.old message result network.new memory.new }
 {
     let place = network.len;
-    match network.post(memory, message) {
-        Ok(()) => take_out(network, memory, place),
-        Err(refusal) => Err(refusal),
-    }
+    network.post(memory, message)?;
+    take_out(network, memory, place)
 }
 
 // Takes the message at a place, and settles it.
@@ -31,13 +29,9 @@ fn take_out<S: Copy, V: Copy>(
 ) -> Result<Message<S, V>, Refusal>
     ensures { TakenOut network.old memory.old place result network.new memory.new }
 {
-    match network.take(memory, place) {
-        Ok((message, token)) => {
-            network.settle(memory, token);
-            Ok(message)
-        }
-        Err(refusal) => Err(refusal),
-    }
+    let (message, token) = network.take(memory, place)?;
+    network.settle(memory, token);
+    Ok(message)
 }
 
 // Passes a message through the network, and lets the server receive it.
@@ -50,8 +44,6 @@ pub fn hand_over<S: Timestamp, V: Value>(
 ) -> Result<(), Refusal>
     ensures { Delivered S.above S.lowest V.initial_value server.old listeners.old network.old memory.old message result server.new listeners.new network.new memory.new }
 {
-    match pass_through(network, memory, message) {
-        Ok(taken) => server.receive(listeners, network, memory, taken, false),
-        Err(refusal) => Err(refusal),
-    }
+    let taken = pass_through(network, memory, message)?;
+    server.receive(listeners, network, memory, taken, false)
 }

@@ -7,13 +7,13 @@ ghost use Rattle.third.specs.UnanimousLaws.{unanimous_laws};
 use crate::unanimous::Unanimous;
 use calls::Refusal;
 use quorums::QuorumSystem;
-use quorums::sets::ServerSet;
+use quorums::sets::{ServerSet, is_refused_size};
 
 impl Unanimous {
     pub fn open(n: u8) -> Result<Unanimous, Refusal>
         ensures { Opened n result }
     {
-        if n == 0 || n > 16 {
+        if is_refused_size(n) {
             return Err(Refusal::SystemSize);
         }
         Ok(Unanimous { n })
@@ -24,24 +24,14 @@ impl Unanimous {
 fn has_all(set: ServerSet, n: u8) -> bool
     ensures { result ≡ each n (members set) }
 {
-    for server in 0..n {
-        if !set.contains(server) {
-            return false;
-        }
-    }
-    true
+    (0..n).all(|server| set.contains(server))
 }
 
 // Whether none of the first n servers is in the set.
 fn has_none(set: ServerSet, n: u8) -> bool
     ensures { result ≡ each n (outside (members set)) }
 {
-    for server in 0..n {
-        if set.contains(server) {
-            return false;
-        }
-    }
-    true
+    (0..n).all(|server| !set.contains(server))
 }
 
 impl QuorumSystem for Unanimous {

@@ -1,6 +1,5 @@
 // The order of versions.
 ghost use Rattle.std.specs.Prelude.{◌≡◌};
-ghost use Rattle.timestamps.specs.Laws.{higher};
 ghost use Rattle.third.specs.VersionOrder.{version_above, version_owner, version_lowest, version_successor, next_number};
 ghost use Rattle.third.specs.VersionLaws.{version_laws};
 
@@ -13,13 +12,6 @@ impl Version {
     {
         Version { number }
     }
-}
-
-// The higher of two versions; of equals, the first.
-fn higher_of(a: Version, b: Version) -> Version
-    ensures { result ≡ higher version_above a b }
-{
-    if b.is_above(a) { b } else { a }
 }
 
 // The number after top, if it fits; only client 0 has one.
@@ -49,13 +41,10 @@ impl Timestamp for Version {
     }
 
     fn is_above(self, other: Version) -> bool {
-        other.number < self.number
+        self > other
     }
 
     fn next(client: u8, a: Version, b: Version) -> Option<Version> {
-        match number_after(client, higher_of(a, b).number) {
-            Some(number) => Some(Version::new(number)),
-            None => None,
-        }
+        number_after(client, b.max(a).number).map(Version::new)
     }
 }

@@ -35,13 +35,9 @@ fn oldest<S: Copy, V: Copy>(
     network: &mut Network,
     memory: &mut [Message<S, V>],
 ) -> Result<Message<S, V>, Refusal> {
-    match network.take(memory, 0) {
-        Ok((message, token)) => {
-            network.settle(memory, token);
-            Ok(message)
-        }
-        Err(refusal) => Err(refusal),
-    }
+    let (message, token) = network.take(memory, 0)?;
+    network.settle(memory, token);
+    Ok(message)
 }
 
 // Stores a pair at a server, and sees that the server confirms it: the server.
@@ -74,12 +70,11 @@ fn confirmations<Q: QuorumSystem, S: Timestamp, V: Value>(
         return Err(Fail::new("no timestamp is left"));
     };
     let mut set = ServerSet::empty();
-    for i in 0..servers.len() {
-        assert!(rt; i < 16);
-        let message = store(i as u8, timestamp, value);
-        set = set.with(confirmed(rt, &mut servers[i], listeners, memory, message)?);
+    for (number, server) in (0..16u8).zip(servers.iter_mut()) {
+        let message = store(number, timestamp, value);
+        set = set.with(confirmed(rt, server, listeners, memory, message)?);
         if system.is_quorum(set) {
-            return Ok(i + 1);
+            return Ok(usize::from(number) + 1);
         }
     }
     Ok(0)

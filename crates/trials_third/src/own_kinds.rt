@@ -28,19 +28,8 @@ fn unanimous_system_has_1_to_16_servers(rt: HostRuntime) -> Result<(), Fail> {
     Ok(())
 }
 
-// Whether a set is a quorum and whether it is fail-prone; neither where n is refused.
-fn answers(n: u8, mask: u16) -> (bool, bool) {
-    match Unanimous::open(n) {
-        Ok(system) => (
-            system.is_quorum(ServerSet { mask }),
-            system.is_fail_prone(ServerSet { mask }),
-        ),
-        Err(_) => (false, false),
-    }
-}
-
 #[test]
-fn all_servers_are_a_quorum_and_none_are_fail_prone(rt: HostRuntime) {
+fn all_servers_are_a_quorum_and_none_are_fail_prone(rt: HostRuntime) -> Result<(), Fail> {
     let questions = [
         (3, 0b111, (true, false)),
         (3, 0b011, (false, false)),
@@ -57,15 +46,15 @@ fn all_servers_are_a_quorum_and_none_are_fail_prone(rt: HostRuntime) {
         (1, 2, (false, true)),
     ];
     for (n, mask, answer) in questions {
-        assert_eq!(rt; answers(n, mask), answer);
+        let system = Unanimous::open(n)?;
+        let set = ServerSet { mask };
+        assert_eq!(rt; (system.is_quorum(set), system.is_fail_prone(set)), answer);
     }
+    Ok(())
 }
 
 fn next(client: u8, a: u8, b: u8) -> Option<u8> {
-    match Version::next(client, Version::new(a), Version::new(b)) {
-        Some(version) => Some(version.number),
-        None => None,
-    }
+    Version::next(client, Version::new(a), Version::new(b)).map(|version| version.number)
 }
 
 #[test]

@@ -1,7 +1,7 @@
 use Rattle.third.proofs.PassedOn.{passed_on}
 use Rattle.third.proofs.passing.pass_through.Goals as goal
 
-pub returns-in-Ok : goal.returns-in-Ok
-returns-in-Ok g c =
+pub returns : goal.returns
+returns g c =
     passed_on c.args.network.now c.post.new.self c.take_out.new.network c.args.memory.now c.post.new.memory c.take_out.new.memory c.args.message c.take_out.result
-    c.in-Ok.ensures c.take_out.ensures
+    c.in_ok-post.ensures c.take_out.ensures

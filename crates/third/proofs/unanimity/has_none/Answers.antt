@@ -1,16 +1,12 @@
-use Rattle.std.proofs.Common.{◌≡◌, true, false, sym, rules}
+use Rattle.std.proofs.Common.{◌∙◌, refl, rules, tests, arith}
+use Rattle.std.proofs.lemmas.Iterator.{YieldsList-from_range}
+use Rattle.std.proofs.lemmas.Iterator.Search.{all_from_yields_List}
 use Rattle.quorums.specs.Sets.{members, outside}
-use Rattle.third.specs.UnanimousLaws.{each_lacks, each_more}
+use Rattle.third.proofs.Each.{each_in_order}
 use Rattle.third.proofs.unanimity.has_none.Goals as goal
 
-pub returns-then-contains : goal.returns-then-contains
-returns-then-contains c =
+pub returns : goal.returns
+returns c =
+    let n = c.args.n in
     let s = outside (members c.args.set) in
-    let present : s c.loop-server.server ≡ false = search rules in
-    sym (each_lacks c.args.n c.loop-server.server s c.loop-server-test.true present)
-
-pub loop-server-preserved : goal.loop-server-preserved
-loop-server-preserved c =
-    let s = outside (members c.args.set) in
-    let absent : s c.loop-server.server ≡ true = search rules in
-    each_more c.loop-server.server s c.loop-server.invariant absent
+    all_from_yields_List s _ _ c.all.result c.all.ensures.ran (YieldsList-from_range 0 n n refl (omega arith)) (λ x b q k. search (rules, tests)) ∙ each_in_order n s
