@@ -1,9 +1,9 @@
 -- The digits of masks.
-use Rattle.std.proofs.Common.{◌≡◌, ℕ, zero, suc, ◌-◌, ◌/◌, ◌%◌, ◌^◌, ◌<◌, ◌≤◌, min, max, false, ◌||◌, eqb, nat_lt, inl, inr, sym, refl, ap, ◌∙◌, pow-suc, one-add, arith, pow_mono}
+use Rattle.std.proofs.Common.{◌≡◌, ℕ, zero, suc, ◌-◌, ◌/◌, ◌%◌, ◌^◌, ◌<◌, ◌≤◌, min, max, false, ◌||◌, eqb, inl, inr, sym, refl, ap, ◌∙◌, pow-suc, one-add, arith, pow_mono}
 use native.Mathlib.Nat.{div-eq_of_lt, mod-eq_of_lt, min-eq_left, min-eq_right}
 use lib.Bits.{bit_or, or_step}
 use Rattle.std.proofs.lemmas.Nat.{shr-shr, or_shr, pow_pos}
-use Rattle.std.proofs.lemmas.Bool.{eq-eqb, ne_eqb, lt-ltb, le-ltb, cases_lt}
+use Rattle.std.proofs.lemmas.Bool.{eq-eqb, ne_eqb, cases_lt}
 use Rattle.std.proofs.lemmas.Bool.Decides.{nat_tests}
 use Rattle.quorums.specs.Sets.{bits, below}
 
@@ -33,19 +33,16 @@ bits_one (suc k) (suc i) =
     let half : 2 ^ suc k / 2 ≡ 2 ^ k = omega arith in
     ap (λ m. bits m i) half ∙ bits_one k i ∙ sym (eqb_suc i k)
 
-nat_lt_suc : (i n : ℕ) → nat_lt (suc i) (suc n) ≡ nat_lt i n
-nat_lt_suc i n = grind (arith, nat_tests)
-
 pub bits_first : (n i : ℕ) → bits (2 ^ n - 1) i ≡ below n i
-bits_first zero i = bits_zero i ∙ sym (le-ltb i 0 (omega arith))
+bits_first zero i = bits_zero i
 bits_first (suc n) zero =
     let p = pow-suc 2 n in
     let some = pow_pos n in
-    eq-eqb ((2 ^ suc n - 1) % 2) 1 (omega arith) ∙ sym (lt-ltb 0 (suc n) (omega arith))
+    eq-eqb ((2 ^ suc n - 1) % 2) 1 (omega arith)
 bits_first (suc n) (suc i) =
     let p = pow-suc 2 n in
     let half : (2 ^ suc n - 1) / 2 ≡ 2 ^ n - 1 = omega arith in
-    ap (λ m. bits m i) half ∙ bits_first n i ∙ sym (nat_lt_suc i n)
+    ap (λ m. bits m i) half ∙ bits_first n i
 
 pub bits_at : (m i : ℕ) → bits m i ≡ eqb (m / 2 ^ i % 2) 1
 bits_at m zero = let h : m / 1 ≡ m = omega arith in ap (λ x. eqb (x % 2) 1) (sym h)

@@ -21,7 +21,9 @@ none i = false
 
 -- the servers 0 .. n-1
 abbrev pub below : ℕ → Set
-below n i = nat_lt i n
+below zero i = false
+below (suc n) zero = true
+below (suc n) (suc i) = below n i
 
 -- the servers that are in both sets
 abbrev pub both : Set → Set → Set

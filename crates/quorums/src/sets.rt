@@ -37,6 +37,7 @@ impl ServerSet {
         }
     }
 
+    #[tactic(auto, using(crate::proofs::Masks::bits_at, crate::proofs::Masks::bits_end))]
     pub fn contains(self, server: u8) -> bool
         ensures { result ≡ members self server }
     {
@@ -95,6 +96,7 @@ impl ServerSet {
     }
 
     // Whether all of the first n servers are in the set.
+    #[tactic(auto, using(crate::specs::Counts::tally_all))]
     pub(crate) fn covers(self, n: u8) -> bool
         ensures { result ≡ all n (members self) }
     {
@@ -102,6 +104,7 @@ impl ServerSet {
     }
 
     // Whether those of the first n servers that are in this set are all in the other.
+    #[tactic(auto, using(crate::specs::Counts::tally_part_of))]
     pub(crate) fn is_part_of(self, other: ServerSet, n: u8) -> bool
         ensures { result ≡ part_of n (members self) (members other) }
     {

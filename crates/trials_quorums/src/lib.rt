@@ -4,6 +4,8 @@
 #[cfg(test)]
 mod listed;
 #[cfg(test)]
+mod opening;
+#[cfg(test)]
 mod sets;
 #[cfg(test)]
 mod threshold;

@@ -1,4 +1,5 @@
 // The listed system: which lists are refused, and what is answered by one that is not.
+use crate::opening::refusal_of;
 use quorums::QuorumSystem;
 use quorums::listed::Listed;
 use quorums::sets::ServerSet;
@@ -9,15 +10,9 @@ fn set(mask: u16) -> ServerSet {
     ServerSet { mask }
 }
 
-// The refusal of opening a system; 0 where it is opened, with so many servers.
+// The refusal of opening a system of these sets.
 fn opening(rt: &impl Abort, n: u8, sets: &[ServerSet]) -> Result<u8, Fail> {
-    match Listed::open(n, sets) {
-        Ok(system) => {
-            assert_eq!(rt; system.servers(), n);
-            Ok(0)
-        }
-        Err(refusal) => Ok(u8::from(refusal)),
-    }
+    refusal_of(rt, Listed::open(n, sets), n)
 }
 
 // The refusal of opening a system with so many sets, each server 0 alone.

@@ -1,20 +1,18 @@
 // The threshold system: its limits, and how many servers are a quorum or fail-prone.
+use crate::opening::refusal_of;
 use quorums::QuorumSystem;
 use quorums::sets::ServerSet;
 use quorums::threshold::Threshold;
 use std::process::Abort;
 use std::test::Fail;
 
-// The refusal of opening a system; 0 where it is opened, with so many servers.
+// The refusal of opening a system, which has so many faults where it is opened.
 fn opening(rt: &impl Abort, n: u8, f: u8) -> Result<u8, Fail> {
-    match Threshold::open(n, f) {
-        Ok(system) => {
-            assert_eq!(rt; system.servers(), n);
-            assert_eq!(rt; system.f, f);
-            Ok(0)
-        }
-        Err(refusal) => Ok(u8::from(refusal)),
+    let opened = Threshold::open(n, f);
+    if let Ok(system) = &opened {
+        assert_eq!(rt; system.f, f);
     }
+    refusal_of(rt, opened, n)
 }
 
 #[test]
