@@ -103,22 +103,6 @@ impl<S: Timestamp, V: Value> Client<S, V> {
         }
     }
 
-    // A read under the next number: its reports are forgotten, and a message of the kind goes to every server.
-    fn begun_anew<Q: QuorumSystem>(
-        &self,
-        system: &Q,
-        part: &mut [Report<S, V>],
-        client: u8,
-        kind: Kind,
-    ) -> Outcome<S, V>
-        requires { self.now.number < 4294967295 }
-        ensures begun { outcome_of (Q.size system.now) client result (view S.above (S.lowest, V.initial_value) (Q.size system.now) part.new) ≡ begins (kinds_of Q.QuorumSystem S.Timestamp V.Value system.now) client (client_of self.now (view S.above (S.lowest, V.initial_value) (Q.size system.now) part.old)) (reading (unread S.lowest V.initial_value)) kind }
-        ensures memory { part.new ≡ replicate (length part.old) None }
-    {
-        forget(part);
-        self.begun(system, client, Phase::Reading, kind)
-    }
-
     // Begins a write: what is answered, and what goes to the servers.
     pub fn begin_write<Q: QuorumSystem>(
         &mut self,
@@ -150,7 +134,8 @@ impl<S: Timestamp, V: Value> Client<S, V> {
         ensures { BegunRead (kinds_of Q.QuorumSystem S.Timestamp V.Value system.now) (S.lowest, V.initial_value) self.old part.old client room result self.new part.new }
     {
         self.may_begin(system, room)?;
-        let outcome = self.begun_anew(system, part, client, Kind::Read);
+        forget(part);
+        let outcome = self.begun(system, client, Phase::Reading, Kind::Read);
         Ok(self.becomes(outcome))
     }
 }

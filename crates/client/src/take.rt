@@ -16,10 +16,10 @@ use values::Value;
 
 impl<S: Timestamp, V: Value> Outcome<S, V> {
     // The outcome, unless it sends more messages than there is room.
-    fn within(self, n: u8, room: usize) -> Result<Outcome<S, V>, Refusal>
-        ensures { Fitting n room self result }
+    fn within<Q: QuorumSystem>(self, system: &Q, room: usize) -> Result<Outcome<S, V>, Refusal>
+        ensures { Fitting (Q.size system.now) room self result }
     {
-        if self.broadcast.is_some() && n as usize > room {
+        if self.broadcast.is_some() && system.servers() as usize > room {
             return Err(Refusal::NetworkFull);
         }
         Ok(self)
@@ -80,9 +80,7 @@ impl<S: Timestamp, V: Value> Client<S, V> {
     {
         match (self.phase, kind) {
             (Phase::Reading, Kind::Value) => self.on_value(system, part, message, room),
-            _ => self
-                .on_other(system, message, kind)
-                .within(system.servers(), room),
+            _ => self.on_other(system, message, kind).within(system, room),
         }
     }
 

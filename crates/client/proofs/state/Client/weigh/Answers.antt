@@ -1,10 +1,8 @@
 use Rattle.std.proofs.Common.{◌≡◌, ◌&&◌, false, rules as general_rules}
 use Rattle.reading.specs.Reports.{view}
-use Rattle.protocol.specs.Clients.{awaited}
-use Rattle.client.specs.Showing.{kinds_of, client_of}
+use Rattle.client.specs.Showing.{kinds_of}
 use Rattle.client.specs.Taking.{is_reading, is_value}
 use Rattle.client.proofs.Weighing.{weigh_fitting}
-use Rattle.client.proofs.state.Client.weigh.Goals.{in_default-via-in-Reading+in_default, in_default-via-in_default}
 use Rattle.client.proofs.state.Client.weigh.Goals as goal
 
 pub returns-in_default-clause-weighed : goal.returns-in_default-clause-weighed
@@ -14,10 +12,5 @@ returns-in_default-clause-weighed g c =
     let p = c.args.part.now in
     let m = c.args.message in
     let known = view g.S.Timestamp.above d K.rules.n p in
-    let other : (is_reading c.args.self.now.phase && is_value c.args.kind) ≡ false =
-    elim c.in_default.branch [
-      | in_default-via-in-Reading+in_default w ↦ search general_rules
-      | in_default-via-in_default w ↦ search general_rules
-    ] in
-    weigh_fitting K d p m c.args.room c.servers.result c.on_other.result (awaited K c.args.kind (client_of c.args.self.now known) m) c.within.result
-    c.servers.ensures (c.on_other.ensures known other) c.within.ensures
+    let other : (is_reading c.args.self.now.phase && is_value c.args.kind) ≡ false = search general_rules in
+    rw (← (c.on_other.ensures known other)) (weigh_fitting K d p m c.args.room c.on_other.result c.within.result c.within.ensures)
