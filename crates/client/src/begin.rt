@@ -20,20 +20,6 @@ use values::Value;
 
 pub const MOST_OPERATIONS: u32 = u32::MAX;
 
-impl<S: Timestamp, V: Value> Broadcast<S, V> {
-    // One with the initial timestamp and value.
-    pub(crate) fn plain(kind: Kind, number: u32) -> Broadcast<S, V>
-        ensures { result ≡ record { kind = kind; number = number; timestamp = S.lowest; value = V.initial_value } }
-    {
-        Broadcast {
-            kind,
-            number,
-            timestamp: S::initial(),
-            value: V::initial(),
-        }
-    }
-}
-
 impl<S: Timestamp, V: Value> Client<S, V> {
     // A client at first.
     pub fn initial() -> Client<S, V>
@@ -74,7 +60,8 @@ impl<S: Timestamp, V: Value> Client<S, V> {
         &mut self,
         outcome: Outcome<S, V>,
     ) -> (Answer<S, V>, Option<Broadcast<S, V>>)
-        ensures { (self.new ≡ outcome.client) × (result ≡ (outcome.answer, outcome.broadcast)) }
+        ensures client { self.new ≡ outcome.client }
+        ensures given { result ≡ (outcome.answer, outcome.broadcast) }
     {
         *self = outcome.client;
         (outcome.answer, outcome.broadcast)

@@ -53,7 +53,7 @@ impl<S: Timestamp, V: Value> Client<S, V> {
         room: usize,
     ) -> Result<Outcome<S, V>, Refusal>
         requires { enough_memory (Q.size system.now) part.old message.server ≡ true }
-        ensures { Weighs (kinds_of Q.QuorumSystem S.Timestamp V.Value system.now) (S.lowest, V.initial_value) part.old message (on_value (kinds_of Q.QuorumSystem S.Timestamp V.Value system.now) (client_of self.now (view S.above (S.lowest, V.initial_value) (Q.size system.now) part.old)) message (reading (view S.above (S.lowest, V.initial_value) (Q.size system.now) part.old))) room result part.new }
+        ensures { let K = kinds_of Q.QuorumSystem S.Timestamp V.Value system.now in let known = view S.above (S.lowest, V.initial_value) (Q.size system.now) part.old in Weighs K (S.lowest, V.initial_value) part.old message (on_value K (client_of self.now known) message (reading known)) room result part.new }
     {
         let found = hear_within(system, part, message, room)?;
         Ok(self.decided(system, message.client, found))
@@ -62,6 +62,7 @@ impl<S: Timestamp, V: Value> Client<S, V> {
 
 // A VALUE that may not end the read: where it would, the reports from the i-th on are as they were. Each is
 // read on the way down and written back on the way up.
+// Kept: the way down holds the old reports, since there is no heap, and no array of a type parameter, for a copy.
 fn try_value<Q: QuorumSystem, S: Timestamp, V: Value>(
     system: &Q,
     part: &mut [Report<S, V>],

@@ -7,12 +7,24 @@ ghost use Rattle.client.specs.Sending.{Dispatched};
 
 use crate::state::Broadcast;
 use calls::Refusal;
-use network::message::Message;
+use network::message::{Kind, Message};
 use network::queue::Network;
 use timestamps::Timestamp;
 use values::Value;
 
 impl<S: Timestamp, V: Value> Broadcast<S, V> {
+    // One with the initial timestamp and value.
+    pub(crate) fn plain(kind: Kind, number: u32) -> Broadcast<S, V>
+        ensures { result ≡ record { kind = kind; number = number; timestamp = S.lowest; value = V.initial_value } }
+    {
+        Broadcast {
+            kind,
+            number,
+            timestamp: S::initial(),
+            value: V::initial(),
+        }
+    }
+
     // Sends the message of a client to each of the n servers, in server order.
     pub fn send(
         self,

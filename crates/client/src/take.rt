@@ -75,7 +75,7 @@ impl<S: Timestamp, V: Value> Client<S, V> {
         room: usize,
     ) -> Result<Outcome<S, V>, Refusal>
         requires { enough_memory (Q.size system.now) part.old message.server ≡ true }
-        ensures weighed { Weighs (kinds_of Q.QuorumSystem S.Timestamp V.Value system.now) (S.lowest, V.initial_value) part.old message (awaited (kinds_of Q.QuorumSystem S.Timestamp V.Value system.now) kind (client_of self.now (view S.above (S.lowest, V.initial_value) (Q.size system.now) part.old)) message) room result part.new }
+        ensures weighed { let K = kinds_of Q.QuorumSystem S.Timestamp V.Value system.now in let known = view S.above (S.lowest, V.initial_value) (Q.size system.now) part.old in Weighs K (S.lowest, V.initial_value) part.old message (awaited K kind (client_of self.now known) message) room result part.new }
         ensures unheard { (is_reading self.now.phase && is_value kind) ≡ false → part.new ≡ part.old }
     {
         match (self.phase, kind) {
