@@ -65,7 +65,7 @@ Tried K d i p b t v (Some pair) q =
 
 -- a VALUE where there is room for so many messages: it is heard, unless it ends the read and STOP to every server finds no room
 abbrev pub Within : {S V : Type 0} → Rules S V → S × V → ℕ → List (Report S V) → ℕ → S → V → Result (Option (S × V)) Refusal → List (Report S V) → Type 0
-Within K d room p b t v (Ok r) q = Heard K d p b t v r q × (is_some r ≡ true → K.n ≤ room)
+Within K d room p b t v (Ok r) q = Hearing K d p b t v r q × (is_some r ≡ true → K.n ≤ room)
 Within K d room p b t v (Err e) q =
     (e ≡ NetworkFull) × (room < K.n) × (is_some (decide K (after_value K d p b t v) (after_value K d p b t v).watched) ≡ true) × (q ≡ p)
 

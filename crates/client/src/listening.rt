@@ -95,7 +95,6 @@ fn hear_within<Q: QuorumSystem, S: Timestamp, V: Value>(
     message: Message<S, V>,
     room: usize,
 ) -> Result<Option<(S, V)>, Refusal>
-    requires { enough_memory (Q.size system.now) part.old message.server ≡ true }
     ensures { Within (rules_of Q.QuorumSystem S.Timestamp V.Value system.now) (S.lowest, V.initial_value) room part.old message.server message.timestamp message.value result part.new }
 {
     if room >= system.servers() as usize {

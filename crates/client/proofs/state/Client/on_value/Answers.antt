@@ -20,4 +20,4 @@ returns g c =
     let K = kinds_of g.Q.QuorumSystem g.S.Timestamp g.V.Value c.args.system.now in
     let told = c.in_ok-found.ensures in
     value_weighed K (g.S.Timestamp.lowest, g.V.Value.initial_value) c.args.part.now c.args.message c.args.room c.args.self.now
-    c.hear_within.new.part c.decided.result c.in_ok-found.found c.decided.ensures told.0 told.1
+    c.hear_within.new.part c.decided.result c.in_ok-found.found c.decided.ensures (told.0.enough c.requires) told.1
