@@ -9,7 +9,7 @@ use Rattle.network.specs.declared.message.Kind.TheVariants.{Query, Ts, Store, Ac
 use Rattle.network.specs.declared.message.Message.{Message}
 use Rattle.reading.specs.Readings.{Rules, Reading, decide}
 use Rattle.reading.specs.Reports.{Report, view}
-use Rattle.reading.specs.Hearing.{Hearing, Heard, enough_memory, after_value}
+use Rattle.reading.specs.Hearing.{Hearing, enough_memory, after_value}
 use Rattle.protocol.specs.Settings.{Setting}
 use Rattle.protocol.specs.Clients as protocol
 use Rattle.client.specs.declared.state.Client.{Client}

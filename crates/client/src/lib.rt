@@ -3,6 +3,7 @@
 
 pub mod begin;
 mod listening;
+mod reply;
 pub mod send;
 pub mod state;
 pub mod take;

@@ -6,6 +6,7 @@ ghost use Rattle.protocol.specs.Clients.{awaited};
 ghost use Rattle.client.specs.Showing.{kinds_of, client_of, outcome_of};
 ghost use Rattle.client.specs.Taking.{sending, Fitting, is_reading, is_value, hears_value, expected, Weighs, TakenIn};
 
+use crate::reply::Reply;
 use crate::state::{Broadcast, Client, Outcome, Phase};
 use calls::{Answer, Refusal};
 use network::message::{Kind, Message};
@@ -35,14 +36,8 @@ fn is_enough(entries: usize, n: u8, server: u8) -> bool
 
 impl<S: Timestamp, V: Value> Client<S, V> {
     // A message of the open operation that is no VALUE of a read: one that the phase does not await is dropped.
-    fn on_other<Q: QuorumSystem>(
-        &self,
-        system: &Q,
-        message: Message<S, V>,
-        kind: Kind,
-    ) -> Outcome<S, V>
-        requires { message.server < 16 }
-        ensures { (known : _) → (is_reading self.now.phase && is_value kind) ≡ false → outcome_of (Q.size system.now) message.client result known ≡ awaited (kinds_of Q.QuorumSystem S.Timestamp V.Value system.now) kind (client_of self.now known) message }
+    fn on_other<Q: QuorumSystem>(&self, system: &Q, reply: Reply<S, V>, kind: Kind) -> Outcome<S, V>
+        ensures { (known : _) → (is_reading self.now.phase && is_value kind) ≡ false → outcome_of (Q.size system.now) reply.message.client result known ≡ awaited (kinds_of Q.QuorumSystem S.Timestamp V.Value system.now) kind (client_of self.now known) reply.message }
     {
         match (self.phase, kind) {
             (
@@ -52,7 +47,7 @@ impl<S: Timestamp, V: Value> Client<S, V> {
                     highest,
                 },
                 Kind::Ts,
-            ) => self.on_ts(system, message, value, told, highest),
+            ) => self.on_ts(system, reply, value, told, highest),
             (
                 Phase::Storing {
                     timestamp,
@@ -60,7 +55,7 @@ impl<S: Timestamp, V: Value> Client<S, V> {
                     acknowledged,
                 },
                 Kind::Ack,
-            ) => self.on_ack(system, message, timestamp, value, acknowledged),
+            ) => self.on_ack(system, reply, timestamp, value, acknowledged),
             _ => self.unchanged(),
         }
     }
@@ -80,7 +75,9 @@ impl<S: Timestamp, V: Value> Client<S, V> {
     {
         match (self.phase, kind) {
             (Phase::Reading, Kind::Value) => self.on_value(system, part, message, room),
-            _ => self.on_other(system, message, kind).within(system, room),
+            _ => self
+                .on_other(system, Reply { message }, kind)
+                .within(system, room),
         }
     }
 

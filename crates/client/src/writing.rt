@@ -6,9 +6,10 @@ ghost use Rattle.protocol.specs.Clients.{asking, storing, unchanged, chosen, ask
 ghost use Rattle.calls.specs.declared.Answer.TheVariants.{Taken};
 ghost use Rattle.client.specs.Showing.{kinds_of, phase_of, client_of, outcome_of};
 
+use crate::reply::Reply;
 use crate::state::{Broadcast, Client, Outcome, Phase};
 use calls::Answer;
-use network::message::{Kind, Message};
+use network::message::Kind;
 use quorums::QuorumSystem;
 use quorums::sets::ServerSet;
 use timestamps::{Timestamp, higher_of, is_level};
@@ -141,14 +142,14 @@ impl<S: Timestamp, V: Value> Client<S, V> {
     pub(crate) fn on_ts<Q: QuorumSystem>(
         &self,
         system: &Q,
-        message: Message<S, V>,
+        reply: Reply<S, V>,
         value: V,
         told: ServerSet,
         highest: S,
     ) -> Outcome<S, V>
-        requires { message.server < 16 }
-        ensures { (known : _) → outcome_of (Q.size system.now) message.client result known ≡ on_ts (kinds_of Q.QuorumSystem S.Timestamp V.Value system.now) (client_of self.now known) message (asking value (members told) highest) }
+        ensures { (known : _) → outcome_of (Q.size system.now) reply.message.client result known ≡ on_ts (kinds_of Q.QuorumSystem S.Timestamp V.Value system.now) (client_of self.now known) reply.message (asking value (members told) highest) }
     {
+        let Reply { message } = reply;
         if told.contains(message.server) {
             return self.unchanged();
         }
@@ -165,14 +166,14 @@ impl<S: Timestamp, V: Value> Client<S, V> {
     pub(crate) fn on_ack<Q: QuorumSystem>(
         &self,
         system: &Q,
-        message: Message<S, V>,
+        reply: Reply<S, V>,
         timestamp: S,
         value: V,
         acknowledged: ServerSet,
     ) -> Outcome<S, V>
-        requires { message.server < 16 }
-        ensures { (known : _) → outcome_of (Q.size system.now) message.client result known ≡ on_ack (kinds_of Q.QuorumSystem S.Timestamp V.Value system.now) (client_of self.now known) message (storing timestamp value (members acknowledged)) }
+        ensures { (known : _) → outcome_of (Q.size system.now) reply.message.client result known ≡ on_ack (kinds_of Q.QuorumSystem S.Timestamp V.Value system.now) (client_of self.now known) reply.message (storing timestamp value (members acknowledged)) }
     {
+        let Reply { message } = reply;
         if !is_level(message.timestamp, timestamp) {
             return self.unchanged();
         }
