@@ -1,15 +1,16 @@
 -- Entries in memory by row and place.
-use Rattle.std.proofs.Common.{◌≡◌, ℕ, ◌+◌, ◌*◌, ◌/◌, ◌%◌, ◌<◌, ◌≤◌, ◌&&◌, eqb, List, None, Option, length, get_or, set, sym, ap, ◌∙◌, inl, inr, mul_comm, arith}
+use Rattle.std.proofs.Common.{◌≡◌, ℕ, ◌+◌, ◌*◌, ◌/◌, ◌%◌, ◌<◌, ◌≤◌, Bool, ◌&&◌, eqb, List, None, Option, length, get_or, set, sym, ap, ◌∙◌, inl, inr, mul_comm, arith}
 use Rattle.std.proofs.lemmas.Nat.{mul-add-lt, div-mul-add, mod-mul-add}
 use Rattle.std.proofs.lemmas.List.{get_or-set_same, get_or-set_other}
 use Rattle.std.proofs.lemmas.Bool.{cases_Bool, and_parts, and_cases, eqb-true, eqb-false, cond-true, cond-false}
-use Rattle.reading.specs.Reports.{Room, cell, put_at}
+use Rattle.reading.specs.declared.reports.Reports.{Reports}
+use Rattle.reading.specs.Reports.{Report, Kept, cell, put_at, shown, view}
+use Rattle.reading.proofs.Views.{shown_same}
 
 -- an entry of a row is within the memory
-pub inside : {R : Type 0} (n : ℕ) (p : List R) (b k : ℕ) → Room n p → b < n → k ≤ n → b * (n + 1) + k < length p
+pub inside : {R : Type 0} (n : ℕ) (p : List R) (b k : ℕ) → n * (n + 1) ≤ length p → b < n → k ≤ n → b * (n + 1) + k < length p
 inside n p b k room hb hk =
     let k1 : k < n + 1 = omega arith in
-    let l = room.long in
     omega (arith, mul-add-lt b (n + 1) k n hb k1, mul_comm n (n + 1))
 
 -- entries at one index are in one row, at one place
@@ -22,7 +23,7 @@ apart_place n b k c j hk hj e =
     sym (mod-mul-add b (n + 1) k (omega arith)) ∙ ap (λ x. x % (n + 1)) e ∙ mod-mul-add c (n + 1) j (omega arith)
 
 -- a write at an index is a write of that entry
-pub cell_set : {R : Type 0} (n : ℕ) (p : List (Option R)) (b k : ℕ) (x : Option R) → Room n p → b < n → k ≤ n
+pub cell_set : {R : Type 0} (n : ℕ) (p : List (Option R)) (b k : ℕ) (x : Option R) → n * (n + 1) ≤ length p → b < n → k ≤ n
     → (c j : ℕ) → j ≤ n → cell n (set p (b * (n + 1) + k) x) c j ≡ put_at (cell n p) b k x c j
 cell_set n p b k x room hb hk c j hj =
     elim (cases_Bool (eqb b c && eqb k j)) [
@@ -40,3 +41,13 @@ cell_set n p b k x room hb hk c j hj =
           ])
           ∙ sym (cond-false (eqb b c && eqb k j) x (cell n p c j) e)
     ]
+
+-- what is known after an entry is written
+module _ {S V : Type 0} (r q : Reports S V) (b k : ℕ) (x : Report S V) (hb : b < r.n) (hk : k ≤ r.n) (written : q.entries.now ≡ set r.entries.now (b * (r.n + 1) + k) x) where
+  pub put_cell : (c j : ℕ) → j ≤ r.n → cell r.n q.entries.now c j ≡ put_at (cell r.n r.entries.now) b k x c j
+  put_cell c j l = ap (λ p. cell r.n p c j) written ∙ cell_set r.n r.entries.now b k x r.room hb hk c j l
+
+  pub put_view : (above : S → S → Bool) (d : S × V) → Kept r q → view above d q.n q.entries.now ≡ shown above d r.n (put_at (cell r.n r.entries.now) b k x)
+  put_view above d kept =
+      ap (λ n. view above d n q.entries.now) kept.servers
+      ∙ shown_same above d r.n (cell r.n q.entries.now) (put_at (cell r.n r.entries.now) b k x) (λ c j l m. put_cell c j m)

@@ -1,6 +1,5 @@
-pub mod Cells
 pub mod Views
-pub mod Gathered
+pub mod Cells
 pub mod Notes
 pub mod Enters
 pub mod Decides

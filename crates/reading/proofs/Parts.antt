@@ -3,15 +3,15 @@ use Rattle.std.proofs.Common.{◌≡◌, ℕ, ◌+◌, ◌*◌, ◌<◌, ◌≤�
 use Rattle.std.proofs.lemmas.List.{length-take-le, get_or-take, get_or_append_left, drop-append-le, drop_all, length-replicate, get_or-replicate, get_or_past}
 use Rattle.std.proofs.lemmas.Bool.{cases_lt, and_parts, leb-true, ltb-true}
 use Rattle.reading.specs.Readings.{rules, unread, heard, decide}
-use Rattle.reading.specs.Reports.{Room, Report, cell, view}
+use Rattle.reading.specs.Reports.{Report, cell, view}
 use Rattle.reading.specs.Hearing.{Heard, enough_memory, after_value, decided}
 use Rattle.reading.proofs.Cells.{inside}
 use Rattle.reading.proofs.Views.{shown_same}
 use Rattle.reading.proofs.Enters.{unread_all}
 
 -- what the test of the memory says
-pub room_enough : {R : Type 0} (n : ℕ) (p : List R) (b : ℕ) → n ≤ 16 → enough_memory n p b ≡ true → Room n p
-room_enough n p b few e = record { few = few; long = leb-true (n * (n + 1)) (length p) (and_parts (leb (n * (n + 1)) (length p)) (ltb b n) e).0 }
+pub room_enough : {R : Type 0} (n : ℕ) (p : List R) (b : ℕ) → enough_memory n p b ≡ true → n * (n + 1) ≤ length p
+room_enough n p b e = leb-true (n * (n + 1)) (length p) (and_parts (leb (n * (n + 1)) (length p)) (ltb b n) e).0
 
 pub server_enough : {R : Type 0} (n : ℕ) (p : List R) (b : ℕ) → enough_memory n p b ≡ true → b < n
 server_enough n p b e = ltb-true b n (and_parts (leb (n * (n + 1)) (length p)) (ltb b n) e).1
@@ -30,19 +30,19 @@ module _ {S V : Type 0} (above : S → S → Bool) where
 
   module _ (d : S × V) (n : ℕ) where
     -- only the first n * (n + 1) entries are shown
-    pub view_take : (p : List (Report S V)) → Room n p → view above d n (take (n * (n + 1)) p) ≡ view above d n p
+    pub view_take : (p : List (Report S V)) → n * (n + 1) ≤ length p → view above d n (take (n * (n + 1)) p) ≡ view above d n p
     view_take p room =
-        let long = length-take-le (n * (n + 1)) p room.long in
-        let front : Room n (take (n * (n + 1)) p) = record { few = room.few; long = omega arith } in
+        let long = length-take-le (n * (n + 1)) p room in
+        let front : n * (n + 1) ≤ length (take (n * (n + 1)) p) = omega arith in
         shown_same above d n (cell n (take (n * (n + 1)) p)) (cell n p)
         (λ x k l h. get_or-take (n * (n + 1)) p (x * (n + 1) + k) None (omega (arith, long, inside n (take (n * (n + 1)) p) x k front l h)))
 
-    pub view_append : (y z : List (Report S V)) → Room n y → view above d n (y ++ z) ≡ view above d n y
+    pub view_append : (y z : List (Report S V)) → n * (n + 1) ≤ length y → view above d n (y ++ z) ≡ view above d n y
     view_append y z room = shown_same above d n (cell n (y ++ z)) (cell n y) (λ x k l h. get_or_append_left y z None (x * (n + 1) + k) (inside n y x k room l h))
 
 module _ {S V : Type 0} (above : S → S → Bool) (same : V → V → Bool) (quorum fail_prone : (ℕ → Bool) → Bool) (d : S × V) where
   -- a VALUE that is heard within the reports is heard by the whole memory
-  pub heard_whole : (n z k : ℕ) (p y : List (Report S V)) (b : ℕ) (t : S) (v : V) (r : Option (S × V)) → n ≡ z → k ≡ n * (n + 1) → Room n p → length y ≡ k
+  pub heard_whole : (n z k : ℕ) (p y : List (Report S V)) (b : ℕ) (t : S) (v : V) (r : Option (S × V)) → n ≡ z → k ≡ n * (n + 1) → n * (n + 1) ≤ length p → length y ≡ k
       → view above d n y ≡ after_value (rules n quorum fail_prone above same) d (take k p) b t v
       → r ≡ decided (rules n quorum fail_prone above same) d (take k p) b t v
       → Heard (rules z quorum fail_prone above same) d p b t v r (y ++ drop k p)
@@ -50,7 +50,7 @@ module _ {S V : Type 0} (above : S → S → Bool) (same : V → V → Bool) (qu
       let size = n * (n + 1) in
       let K = rules n quorum fail_prone above same in
       let was : view above d n (take k p) ≡ view above d n p = ap (λ i. view above d n (take i p)) kz ∙ view_take above d n p room in
-      let own : Room n y = record { few = room.few; long = omega arith } in
+      let own : n * (n + 1) ≤ length y = omega arith in
       let Q : ℕ → Type 0 = λ i. Heard (rules i quorum fail_prone above same) d p b t v r (y ++ drop k p) in
       subst Q nz
       (record {

@@ -16,9 +16,13 @@ pub record Rules (S V : Type 0) : Type 0 where
 abbrev pub rules : {S V : Type 0} → ℕ → ((ℕ → Bool) → Bool) → ((ℕ → Bool) → Bool) → (S → S → Bool) → (V → V → Bool) → Rules S V
 rules n quorum fail_prone above same = record { n = n; quorum = quorum; fail_prone = fail_prone; above = above; same = same }
 
--- the rules of the kinds of a register and of its quorum system
+-- the rules of the kinds of a register and of its quorum system, for n servers
+abbrev pub rules_for : {Q S V : Type 0} → QuorumGhosts Q → TimestampGhosts S → ValueGhosts V → ℕ → Q → Rules S V
+rules_for Q S V n system = rules n (Q.quorum system) (Q.fail_prone system) S.above V.same
+
+-- for all servers of the quorum system
 abbrev pub rules_of : {Q S V : Type 0} → QuorumGhosts Q → TimestampGhosts S → ValueGhosts V → Q → Rules S V
-rules_of Q S V system = rules (Q.size system) (Q.quorum system) (Q.fail_prone system) S.above V.same
+rules_of Q S V system = rules_for Q S V (Q.size system) system
 
 -- what a reading client knows: which servers have entered, each one's latest pair, the watched timestamps, and each server's evidence for a timestamp
 pub record Reading (S V : Type 0) : Type 0 where

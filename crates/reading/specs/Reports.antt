@@ -1,13 +1,11 @@
 -- The reports of one reading client in memory, and what they show: a row of n + 1 entries for each of the n servers.
 -- Entries 0 .. n-1 of a row are the slots, and entry n is the server's latest pair. Slot j is watched where the entry of server j in it reports a pair.
-use Rattle.std.specs.Prelude.{ℕ, zero, suc, ◌+◌, ◌*◌, ◌≤◌, Bool, false, cond, ◌&&◌, List, [], ◌∷◌, ◌++◌, length, Some, None, Option, is_some, ◌==◌, nat_le, nat_lt, slice_index_or}
+use Rattle.std.specs.Prelude.{◌≡◌, ℕ, zero, suc, ◌+◌, ◌*◌, Bool, false, cond, ◌&&◌, List, [], ◌∷◌, ◌++◌, Some, None, Option, is_some, ◌==◌, nat_le, nat_lt, slice_index_or}
 use Rattle.std.specs.Option.{option_map, unwrap_or}
+use Rattle.timestamps.specs.declared.Timestamp.{Ghosts as TimestampGhosts}
+use Rattle.values.specs.declared.Value.{Ghosts as ValueGhosts}
+use Rattle.reading.specs.declared.reports.Reports.{Reports}
 use Rattle.reading.specs.Readings.{Reading, level}
-
--- there are at most 16 servers, and the memory has an entry for each of them in each slot, and one for each one's latest pair
-pub record Room {R : Type 0} (n : ℕ) (p : List R) : Type 0 where
-  pub few : n ≤ 16
-  pub long : n * (n + 1) ≤ length p
 
 -- an entry: a pair, or nothing
 abbrev pub Report : Type 0 → Type 0 → Type 0
@@ -69,6 +67,15 @@ shown above d n g = record {
 -- what the memory shows
 abbrev pub view : {S V : Type 0} → (S → S → Bool) → S × V → ℕ → List (Report S V) → Reading S V
 view above d n p = shown above d n (cell n p)
+
+-- what the client knows by its reports
+abbrev pub known : {S V : Type 0} → TimestampGhosts S → ValueGhosts V → Reports S V → Reading S V
+known S V r = view S.above (S.lowest, V.initial_value) r.n r.entries.now
+
+-- the reports are still of as many servers, in the same lent memory
+pub record Kept {S V : Type 0} (r q : Reports S V) : Type 0 where
+  pub servers : q.n ≡ r.n
+  pub memory : q.entries.ghost_name ≡ r.entries.ghost_name
 
 -- entry k of server b is written
 abbrev pub put_at : {R : Type 0} → (ℕ → ℕ → R) → ℕ → ℕ → R → ℕ → ℕ → R

@@ -1,13 +1,10 @@
 // What a reading client does with its reports: it forgets them when a read begins, and takes in a VALUE of a server.
-ghost use Rattle.std.specs.Prelude.{◌≡◌, ℕ, ◌+◌, ◌*◌, ◌<◌, ◌&&◌, None, length, replicate, nat_le, nat_lt};
-ghost use Rattle.reading.specs.Readings.{rules, unread};
-ghost use Rattle.reading.specs.Reports.{Room, view};
+ghost use Rattle.std.specs.Prelude.{◌≡◌, ℕ, ◌+◌, ◌*◌, ◌<◌, ◌≤◌, ◌&&◌, None, length, replicate, nat_le, nat_lt};
+ghost use Rattle.reading.specs.Readings.{rules_for, rules_of, unread};
+ghost use Rattle.reading.specs.Reports.{view};
 ghost use Rattle.reading.specs.Hearing.{Hearing, after_value, decided};
 
-use crate::decide::decide;
-use crate::evidence::{note, watch_anew};
-use crate::order::raise;
-use crate::reports::{Report, entries_for};
+use crate::reports::{Report, Reports, entries_for};
 use quorums::QuorumSystem;
 use timestamps::Timestamp;
 use values::Value;
@@ -23,13 +20,13 @@ pub fn forget<S: Timestamp, V: Value>(part: &mut [Report<S, V>])
 }
 
 // Whether the memory has room for n servers, and the server is one of them.
-fn is_enough(entries: usize, n: u8, server: u8) -> bool
+pub fn has_room(entries: usize, n: u8, server: u8) -> bool
     ensures { result ≡ (nat_le (n * (n + 1)) entries && nat_lt server n) }
 {
     entries_for(n) <= entries && server < n
 }
 
-// A VALUE of the server: what the client keeps of it, and what it decides.
+// A VALUE of the server: what the client keeps of it in the reports of n servers, and what it decides.
 fn learn<Q: QuorumSystem, S: Timestamp, V: Value>(
     system: &Q,
     part: &mut [Report<S, V>],
@@ -38,17 +35,19 @@ fn learn<Q: QuorumSystem, S: Timestamp, V: Value>(
     timestamp: S,
     value: V,
 ) -> Option<(S, V)>
-    requires room { Room n part.old }
+    requires few { n ≤ 16 }
+    requires room { n * (n + 1) ≤ length part.old }
     requires row { server < n }
-    ensures after { view S.above (S.lowest, V.initial_value) n part.new ≡ after_value (rules n (Q.quorum system.now) (Q.fail_prone system.now) S.above V.same) (S.lowest, V.initial_value) part.old server timestamp value }
-    ensures answer { result ≡ decided (rules n (Q.quorum system.now) (Q.fail_prone system.now) S.above V.same) (S.lowest, V.initial_value) part.old server timestamp value }
+    ensures after { view S.above (S.lowest, V.initial_value) n part.new ≡ after_value (rules_for Q.QuorumSystem S.Timestamp V.Value n system.now) (S.lowest, V.initial_value) part.old server timestamp value }
+    ensures answer { result ≡ decided (rules_for Q.QuorumSystem S.Timestamp V.Value n system.now) (S.lowest, V.initial_value) part.old server timestamp value }
 {
-    let known = raise(part, n, server, timestamp, value);
-    if !known {
-        watch_anew(system, part, n);
+    let mut reports = Reports::new(part, n);
+    let entered = reports.raise(server, timestamp, value);
+    if !entered {
+        reports.watch_anew(system);
     }
-    note(part, n, server, timestamp, value);
-    decide(system, part, n)
+    reports.note(server, timestamp, value);
+    reports.decide(system)
 }
 
 // A VALUE of the server for the client whose reports these are: a pair where the read is done with it.
@@ -60,10 +59,10 @@ pub fn hear<Q: QuorumSystem, S: Timestamp, V: Value>(
     timestamp: S,
     value: V,
 ) -> Option<(S, V)>
-    ensures { Hearing (rules (Q.size system.now) (Q.quorum system.now) (Q.fail_prone system.now) S.above V.same) (S.lowest, V.initial_value) part.old server timestamp value result part.new }
+    ensures { Hearing (rules_of Q.QuorumSystem S.Timestamp V.Value system.now) (S.lowest, V.initial_value) part.old server timestamp value result part.new }
 {
     let n = system.servers();
-    if !is_enough(part.len(), n, server) {
+    if !has_room(part.len(), n, server) {
         return None;
     }
     learn(
