@@ -11,6 +11,7 @@ use crate::state::{Broadcast, Client, Outcome, Phase};
 use calls::{Answer, Refusal};
 use network::message::{Kind, Message};
 use quorums::QuorumSystem;
+use reading::hear::has_room;
 use reading::reports::Report;
 use timestamps::Timestamp;
 use values::Value;
@@ -25,13 +26,6 @@ impl<S: Timestamp, V: Value> Outcome<S, V> {
         }
         Ok(self)
     }
-}
-
-// Whether the reports have room for n servers, and the server is one of them.
-fn is_enough(entries: usize, n: u8, server: u8) -> bool
-    ensures { result ≡ (nat_le (n * (n + 1)) entries && nat_lt server n) }
-{
-    n as usize * (n as usize + 1) <= entries && server < n
 }
 
 impl<S: Timestamp, V: Value> Client<S, V> {
@@ -94,7 +88,7 @@ impl<S: Timestamp, V: Value> Client<S, V> {
         ensures taken { TakenIn (kinds_of Q.QuorumSystem S.Timestamp V.Value system.now) (S.lowest, V.initial_value) self.old part.old message kind room result self.new part.new }
         ensures unheard { hears_value self.old message kind ≡ false → part.new ≡ part.old }
     {
-        if !is_enough(part.len(), system.servers(), message.server) {
+        if !has_room(part.len(), system.servers(), message.server) {
             return Err(Refusal::Memory);
         }
         if message.number != self.number {
