@@ -18,6 +18,7 @@ use reading::reports::Report;
 use timestamps::Timestamp;
 use values::Value;
 
+// The highest number that an operation may have.
 pub const MOST_OPERATIONS: u32 = u32::MAX;
 
 impl<S: Timestamp, V: Value> Client<S, V> {
