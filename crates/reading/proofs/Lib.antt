@@ -3,4 +3,5 @@ pub mod Cells
 pub mod Notes
 pub mod Enters
 pub mod Decides
+pub mod Countdown
 pub mod Parts

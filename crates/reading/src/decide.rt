@@ -78,7 +78,6 @@ impl<S: Timestamp, V: Value> Reports<'_, S, V> {
         slot: u8,
         rest: Option<(S, V)>,
     ) -> Option<(S, V)>
-        requires column { slot < self.now.n }
         ensures { result ≡ bettered (rules_for Q.QuorumSystem S.Timestamp V.Value self.now.n system.now) (known S.Timestamp V.Value self.now) (timestamp_of (cell self.now.n self.now.entries.now slot slot)) rest }
     {
         let Some((timestamp, _)) = self.entry(slot, slot) else {
@@ -94,10 +93,8 @@ impl<S: Timestamp, V: Value> Reports<'_, S, V> {
     pub(crate) fn decide<Q: QuorumSystem>(&self, system: &Q) -> Option<(S, V)>
         ensures { result ≡ decide (rules_for Q.QuorumSystem S.Timestamp V.Value self.now.n system.now) (known S.Timestamp V.Value self.now) (known S.Timestamp V.Value self.now).watched }
     {
-        let mut best = None;
-        for slot in (0..self.n).rev() {
-            best = self.bettered(system, slot, best);
-        }
-        best
+        (0..self.n)
+            .rev()
+            .fold(None, |best, slot| self.bettered(system, slot, best))
     }
 }

@@ -24,13 +24,10 @@ impl<S: Timestamp, V: Value> Reports<'_, S, V> {
         requires row { server < self.now.n }
         ensures { result ≡ (known S.Timestamp V.Value self.now).evidence server timestamp }
     {
-        let mut last = None;
-        for slot in 0..self.n {
-            if self.is_watched(timestamp, slot) {
-                last = self.entry(server, slot).map(|(_, value)| value);
-            }
-        }
-        last
+        let slot = (0..self.n)
+            .rev()
+            .find(|slot| self.is_watched(timestamp, *slot))?;
+        self.entry(server, slot).map(|(_, value)| value)
     }
 
     // Writes the value as the server's evidence into each slot that is watched for the timestamp.

@@ -1,14 +1,29 @@
-use Rattle.std.proofs.Common.{rules, sym, ◌∙◌}
-use Rattle.reading.specs.Reports.{cell}
-use Rattle.reading.proofs.Notes.{kept_yes, kept_no}
+use Rattle.std.proofs.Common.{◌≡◌, rules, ◌∙◌, sym, ap, None, Some}
+use Rattle.std.specs.List.{find}
+use Rattle.std.specs.Option.{option_map}
+use Rattle.std.proofs.lemmas.Iterator.Search.{find_from_yields_List}
+use borrow.Author.Tests.{tests}
+use Rattle.reading.specs.Reports.{cell, watches}
+use Rattle.reading.proofs.Countdown.{countdown, countdown_yields, kept_found}
 use Rattle.reading.proofs.reports.Reports.evidence_of.Goals as goal
-use Rattle.reading.proofs.reports.Reports.evidence_of.Goals.{then-is_watched, else-is_watched}
 
-pub loop-slot-preserved : goal.loop-slot-preserved
-loop-slot-preserved g c =
-    let above = g.S.Timestamp.above in
-    let grid = cell c.args.self.now.n c.args.self.now.entries.now in
-    elim c.if-is_watched.branch [
-      | then-is_watched w ↦ w.last-is ∙ search rules ∙ sym (kept_yes above grid c.args.server c.args.timestamp c.loop-slot.slot (sym w.if-is_watched.ensures))
-      | else-is_watched w ↦ w.last-is ∙ c.loop-slot.invariant ∙ sym (kept_no above grid c.args.server c.args.timestamp c.loop-slot.slot (sym w.if-is_watched.ensures))
-    ]
+pub returns-in_err-slot : goal.returns-in_err-slot
+returns-in_err-slot g c =
+    let n = c.args.self.now.n in
+    let grid = cell n c.args.self.now.entries.now in
+    let test = watches g.S.Timestamp.above grid c.args.timestamp in
+    let found : option_map (λ x. x) c.find.result ≡ find test (countdown 0 n) =
+    find_from_yields_List test _ _ c.find.result c.find.ensures.ran (countdown_yields n c.rev.ensures.source) (λ x b q k. search (rules, tests)) in
+    let none : c.find.result ≡ None = search rules in
+    let is : c.from_residual.result ≡ None = search rules in
+    is ∙ sym (kept_found g.S.Timestamp.above grid c.args.server c.args.timestamp n None c.requires.row (ap (λ o. option_map (λ x. x) o) (sym none) ∙ found))
+
+pub returns : goal.returns
+returns g c =
+    let n = c.args.self.now.n in
+    let grid = cell n c.args.self.now.entries.now in
+    let test = watches g.S.Timestamp.above grid c.args.timestamp in
+    let found : option_map (λ x. x) c.find.result ≡ find test (countdown 0 n) =
+    find_from_yields_List test _ _ c.find.result c.find.ensures.ran (countdown_yields n c.rev.ensures.source) (λ x b q k. search (rules, tests)) in
+    let some : c.find.result ≡ Some c.in_ok-slot.slot = search rules in
+    search rules ∙ sym (kept_found g.S.Timestamp.above grid c.args.server c.args.timestamp n (Some c.in_ok-slot.slot) c.requires.row (ap (λ o. option_map (λ x. x) o) (sym some) ∙ found))
