@@ -1,15 +1,8 @@
 use Rattle.std.proofs.Common.{◌≡◌, ◌<◌, ◌≢◌, None, length, replicate, sym, ap, ◌∙◌, arith, below_more}
-use borrow.Author.Rules.{scaled_Fits}
 use Rattle.std.proofs.lemmas.List.{get_or-set_same, get_or-set_other, length-replicate, get_or-replicate, ext_get_or}
 use Rattle.reading.specs.Reports.{view}
 use Rattle.reading.proofs.Parts.{view_blank}
 use Rattle.reading.proofs.hear.forget.Goals as goal
-
-pub offset_bounds-part-report-index : goal.offset_bounds-part-report-index
-offset_bounds-part-report-index g c = scaled_Fits c.loop-report.report-index (length c.args.part.now) _ c.loop-report-test.true c.well_formed.0.1
-
-pub bounds-part-report-index : goal.bounds-part-report-index
-bounds-part-report-index g c = omega (arith, c.loop-report-test.true, c.loop-report.auto.part)
 
 pub loop-report-preserved : goal.loop-report-preserved
 loop-report-preserved g c =

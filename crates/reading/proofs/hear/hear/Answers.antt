@@ -1,41 +1,9 @@
-use Rattle.std.proofs.Common.{◌≡◌, ◌≤◌, ◌+◌, ◌*◌, length, true, false, sym, refl, ap, ◌∙◌, subst, arith}
+use Rattle.std.proofs.Common.{◌≡◌, ◌≤◌, ◌+◌, ◌*◌, length, true, sym, ap, ◌∙◌, subst, arith}
 use Rattle.std.proofs.lemmas.List.{length-take-le}
 use Rattle.std.proofs.lemmas.Bool.{both_ways}
 use Rattle.reading.specs.Hearing.{enough_memory}
-use Rattle.reading.proofs.Parts.{room_enough, server_enough, heard_whole}
+use Rattle.reading.proofs.Parts.{room_enough, heard_whole}
 use Rattle.reading.proofs.hear.hear.Goals as goal
-
-pub returns-then-not-has_room : goal.returns-then-not-has_room
-returns-then-not-has_room g c =
-    let p = c.args.part.now in
-    let b = c.args.server in
-    let no : enough_memory (g.Q.QuorumSystem.size c.args.system.now) p b ≡ false =
-    ap (λ k. enough_memory k p b) (sym c.servers-n.ensures) ∙ sym c.if-not-has_room.ensures in
-    record { enough = λ e. absurd (both_ways (enough_memory (g.Q.QuorumSystem.size c.args.system.now) p b) no e); short = λ e. record { answer = refl; memory = refl } }
-
-pub slice_bounds-learn-end : goal.slice_bounds-learn-end
-slice_bounds-learn-end g c =
-    let n = c.servers-n.result in
-    let few : n ≤ 16 = subst (λ k. k ≤ 16) (sym c.servers-n.ensures) (g.met.Q.QuorumSystem.lawful c.args.system.now).few_servers in
-    let room = room_enough n c.args.part.now c.args.server (sym c.if-not-has_room.ensures) in
-    omega (arith, c.entries_for.ensures, room)
-
-pub slice_bounds-learn-end-2 : goal.slice_bounds-learn-end-2
-slice_bounds-learn-end-2 g c =
-    let n = c.servers-n.result in
-    let few : n ≤ 16 = subst (λ k. k ≤ 16) (sym c.servers-n.ensures) (g.met.Q.QuorumSystem.lawful c.args.system.now).few_servers in
-    let room = room_enough n c.args.part.now c.args.server (sym c.if-not-has_room.ensures) in
-    sym (length-take-le c.entries_for.result c.args.part.now (omega (arith, c.entries_for.ensures, room)))
-
-pub learn-requires : goal.learn-requires
-learn-requires g c =
-    let n = c.servers-n.result in
-    let p = c.args.part.now in
-    let few : n ≤ 16 = subst (λ k. k ≤ 16) (sym c.servers-n.ensures) (g.met.Q.QuorumSystem.lawful c.args.system.now).few_servers in
-    let yes : enough_memory n p c.args.server ≡ true = sym c.if-not-has_room.ensures in
-    let room = room_enough n p c.args.server yes in
-    let long = length-take-le c.entries_for.result p (omega (arith, c.entries_for.ensures, room)) in
-    record { few = few; room = omega (arith, long, c.entries_for.ensures); row = server_enough n p c.args.server yes }
 
 pub returns : goal.returns
 returns g c =
