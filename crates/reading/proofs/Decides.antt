@@ -1,7 +1,7 @@
 -- A decision slot by slot, from the last slot to the first.
-use Rattle.std.proofs.Common.{◌≡◌, ℕ, suc, ◌-◌, ◌<◌, List, [], ◌∷◌, ◌++◌, Some, None, Option, refl, ap, ◌∙◌, arith}
+use Rattle.std.proofs.Common.{◌≡◌, List, [], ◌∷◌, ◌++◌, Some, None, Option, refl, ap}
 use Rattle.reading.specs.Readings.{Reading, Rules, better, backed, decide}
-use Rattle.reading.specs.Reports.{Grid, timestamp_of, listed, slots}
+use Rattle.reading.specs.Reports.{listed}
 use Rattle.reading.specs.Deciding.{bettered}
 
 module _ {S V : Type 0} (K : Rules S V) (r : Reading S V) where
@@ -18,9 +18,3 @@ module _ {S V : Type 0} (K : Rules S V) (r : Reading S V) where
   decide_push rest [] None = refl
   decide_push rest [] (Some t) = refl
   decide_push rest (x ∷ xs) t = ap (λ o. better K.above x (backed K r x K.n) o) (decide_push rest xs t)
-
-  pub decide_step : (g : Grid S V) (rest : Option (S × V)) (j : ℕ) → 0 < j
-      → decide_from rest (slots g j) ≡ decide_from (bettered K r (timestamp_of (g (j - 1) (j - 1))) rest) (slots g (j - 1))
-  decide_step g rest j l =
-      let up : j ≡ suc (j - 1) = omega arith in
-      ap (λ i. decide_from rest (slots g i)) up ∙ decide_push rest (slots g (j - 1)) (timestamp_of (g (j - 1) (j - 1)))

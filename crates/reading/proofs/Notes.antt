@@ -1,5 +1,5 @@
 -- Evidence that is read and written slot by slot.
-use Rattle.std.proofs.Common.{◌≡◌, ℕ, zero, suc, ◌+◌, ◌<◌, ◌≤◌, Bool, true, false, cond, not, ◌&&◌, ◌||◌, eqb, ltb, List, [], ◌∷◌, ◌++◌, Some, None, Option, sym, refl, ap, ◌∙◌, inl, inr, add-one, arith}
+use Rattle.std.proofs.Common.{◌≡◌, ℕ, zero, suc, ◌+◌, ◌<◌, ◌≤◌, Bool, true, false, cond, not, ◌&&◌, ◌||◌, eqb, ltb, List, [], ◌∷◌, ◌++◌, Some, None, Option, sym, refl, ap, ◌∙◌, inl, inr, arith}
 use Rattle.std.proofs.lemmas.Bool.{cases_Bool, and_parts, eqb-true, eq-eqb, cond-true, cond-false, lt-ltb, le-ltb, not-true, and_left, and_right, and_from, both_ways, false≢true, not_from_false}
 use Rattle.std.proofs.lemmas.Bool.Decides.{nat_tests}
 use Rattle.std.specs.Prelude.{is_some}
@@ -10,12 +10,6 @@ use Rattle.reading.specs.Reports.{Grid, timestamp_of, content, listed, slots, eq
 use Rattle.reading.proofs.Views.{same_reading, guard, slots_same, kept_same}
 
 -- ---- one slot more
-
-pub kept_yes : {S V : Type 0} (above : S → S → Bool) (g : Grid S V) (b : ℕ) (s : S) (j : ℕ) → watches above g s j ≡ true → kept above g b s (j + 1) ≡ content (g b j)
-kept_yes above g b s j e = ap (λ i. kept above g b s i) (add-one j) ∙ cond-true (watches above g s j) (content (g b j)) (kept above g b s j) e
-
-pub kept_no : {S V : Type 0} (above : S → S → Bool) (g : Grid S V) (b : ℕ) (s : S) (j : ℕ) → watches above g s j ≡ false → kept above g b s (j + 1) ≡ kept above g b s j
-kept_no above g b s j e = ap (λ i. kept above g b s i) (add-one j) ∙ cond-false (watches above g s j) (content (g b j)) (kept above g b s j) e
 
 upto_yes : {A : Type 0} (b c j k : ℕ) (h : ℕ → Bool) (x y : A) → h j ≡ true
     → cond (eqb b c && eqb j k) x (cond (eqb b c && (ltb k j && h k)) x y) ≡ cond (eqb b c && (ltb k (j + 1) && h k)) x y

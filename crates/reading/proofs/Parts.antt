@@ -1,7 +1,7 @@
 -- The reports of a client at the front of a longer memory, and memory in which all is blank.
-use Rattle.std.proofs.Common.{◌≡◌, ℕ, ◌+◌, ◌*◌, ◌<◌, ◌≤◌, Bool, true, ltb, leb, List, ◌++◌, length, get_or, take, drop, replicate, None, Option, ap, ◌∙◌, subst, inl, inr, arith}
+use Rattle.std.proofs.Common.{◌≡◌, ℕ, ◌+◌, ◌*◌, ◌≤◌, Bool, true, ltb, leb, List, ◌++◌, length, get_or, take, drop, replicate, None, Option, ap, ◌∙◌, subst, inl, inr, arith}
 use Rattle.std.proofs.lemmas.List.{length-take-le, get_or-take, get_or_append_left, drop-append-le, drop_all, length-replicate, get_or-replicate, get_or_past}
-use Rattle.std.proofs.lemmas.Bool.{cases_lt, and_parts, leb-true, ltb-true}
+use Rattle.std.proofs.lemmas.Bool.{cases_lt, and_parts, leb-true}
 use Rattle.reading.specs.Readings.{rules, unread, heard, decide}
 use Rattle.reading.specs.Reports.{Report, cell, view}
 use Rattle.reading.specs.Hearing.{Heard, enough_memory, after_value, decided}
@@ -12,9 +12,6 @@ use Rattle.reading.proofs.Enters.{unread_all}
 -- what the test of the memory says
 pub room_enough : {R : Type 0} (n : ℕ) (p : List R) (b : ℕ) → enough_memory n p b ≡ true → n * (n + 1) ≤ length p
 room_enough n p b e = leb-true (n * (n + 1)) (length p) (and_parts (leb (n * (n + 1)) (length p)) (ltb b n) e).0
-
-pub server_enough : {R : Type 0} (n : ℕ) (p : List R) (b : ℕ) → enough_memory n p b ≡ true → b < n
-server_enough n p b e = ltb-true b n (and_parts (leb (n * (n + 1)) (length p)) (ltb b n) e).1
 
 -- a blank entry stands at each place, past the end too
 get_blank : {R : Type 0} (m k : ℕ) (d : R) → get_or (replicate m d) k d ≡ d

@@ -1,9 +1,9 @@
 -- What memory shows after it is written.
-use Rattle.std.proofs.Common.{◌≡◌, ℕ, zero, suc, ◌<◌, ◌≤◌, Bool, true, false, cond, not, ◌&&◌, eqb, ltb, ◌++◌, None, sym, refl, ap, ◌∙◌, ap₂, inl, inr, arith}
-use Rattle.std.proofs.lemmas.Bool.{or_parts, not-false, cases_Bool, eqb-true, eq-eqb, ne_eqb, cond-true, cond-false, lt-ltb, le-ltb, ltb-true, and_left, and_right, and_from}
+use Rattle.std.proofs.Common.{◌≡◌, ℕ, zero, suc, ◌<◌, ◌≤◌, Bool, true, cond, ◌&&◌, eqb, ltb, ◌++◌, None, sym, refl, ap, ◌∙◌, ap₂, inl, inr, arith}
+use Rattle.std.proofs.lemmas.Bool.{cases_Bool, eqb-true, eq-eqb, ne_eqb, cond-true, cond-false, lt-ltb, le-ltb, ltb-true, and_left, and_right, and_from}
 use Rattle.std.specs.Prelude.{is_some, Some}
 use Rattle.std.specs.Option.{unwrap_or}
-use Rattle.reading.specs.Readings.{Reading, updated, newer, raised}
+use Rattle.reading.specs.Readings.{Reading, newer, raised}
 use Rattle.reading.specs.Reports.{Report, Grid, timestamp_of, content, listed, slots, equals, watches, kept, late, shown, put_at}
 
 -- readings with the same parts are the same
@@ -64,13 +64,6 @@ module _ {S V : Type 0} (above : S → S → Bool) (d : S × V) (n : ℕ) (g : G
   put_other : (x : Report S V) (c j : ℕ) → j < n → put_at g b n x c j ≡ g c j
   put_other x c j l = cond-false (eqb b c && eqb n j) x (g c j) (and_right (eqb b c) (eqb n j) (ne_eqb n j (λ e. omega arith)))
 
-  updated_id : {A : Type 0} (f : ℕ → A) (x : A) (c : ℕ) → f b ≡ x → f c ≡ updated f b x c
-  updated_id f x c h =
-      elim (cases_Bool (eqb b c)) [
-        | inl e ↦ ap f (sym (eqb-true b c e)) ∙ h ∙ sym (cond-true (eqb b c) x (f c) e)
-        | inr e ↦ sym (cond-false (eqb b c) x (f c) e)
-      ]
-
   pub raise_yes : (s : S) (v : V) → newer above (shown above d n g) b s ≡ true → shown above d n (put_at g b n (Some (s, v))) ≡ raised above (shown above d n g) b s v
   raise_yes s v new =
       let x : Report S V = Some (s, v) in
@@ -83,13 +76,3 @@ module _ {S V : Type 0} (above : S → S → Bool) (d : S × V) (n : ℕ) (g : G
       (slots_same h g n (λ j l. ap timestamp_of (put_other x j j l)))
       (λ c t. guard c n (kept above h c t n) (kept above g c t n) None (λ l.
       kept_same above h g c t n (λ j m. ap (λ y. equals above t (timestamp_of y)) (put_other x j j m)) (λ j m. ap content (put_other x c j m))))
-
-  pub raise_no : (s : S) (v : V) → newer above (shown above d n g) b s ≡ false → shown above d n g ≡ raised above (shown above d n g) b s v
-  raise_no s v old =
-      let r = shown above d n g in
-      let parts = or_parts (not (r.entered b)) (above s (r.latest b)) old in
-      same_reading r (raised above r b s v)
-      (λ c. updated_id r.entered true c (not-false (r.entered b) parts.0))
-      (λ c. updated_id r.latest (cond (newer above r b s) s (r.latest b)) c (sym (cond-false (newer above r b s) s (r.latest b) old)))
-      (λ c. updated_id r.latest_value (cond (newer above r b s) v (r.latest_value b)) c (sym (cond-false (newer above r b s) v (r.latest_value b) old)))
-      refl (λ c t. refl)

@@ -83,10 +83,8 @@ impl<S: Timestamp, V: Value> Reports<'_, S, V> {
         let Some((timestamp, _)) = self.entry(slot, slot) else {
             return rest;
         };
-        match self.backed(system, timestamp) {
-            Some(value) => better(timestamp, value, rest),
-            None => rest,
-        }
+        self.backed(system, timestamp)
+            .map_or(rest, |value| better(timestamp, value, rest))
     }
 
     // The highest watched timestamp for which a quorum has the same evidence, with that value.

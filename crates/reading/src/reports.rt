@@ -62,6 +62,7 @@ impl<S: Timestamp, V: Value> Reports<'_, S, V> {
         ensures written { self.new.entries.now ≡ slice_set self.old.entries.now (server * (self.old.n + 1) + place) report }
     {
         let index = self.index_of(server, place);
+        // Kept: of a write through get_mut a proof learns the length alone.
         if index < self.entries.len() {
             self.entries[index] = report;
         }
