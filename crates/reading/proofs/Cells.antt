@@ -1,10 +1,10 @@
 -- Entries in memory by row and place.
-use Rattle.std.proofs.Common.{◌≡◌, ℕ, ◌+◌, ◌*◌, ◌/◌, ◌%◌, ◌<◌, ◌≤◌, Bool, ◌&&◌, eqb, List, None, Option, length, get_or, set, sym, ap, ◌∙◌, inl, inr, mul_comm, arith}
-use Rattle.std.proofs.lemmas.Nat.{mul-add-lt, div-mul-add, mod-mul-add}
-use Rattle.std.proofs.lemmas.List.{get_or-set_same, get_or-set_other}
-use Rattle.std.proofs.lemmas.Bool.{cases_Bool, and_parts, and_cases, eqb-true, eqb-false, cond-true, cond-false}
+use Rattle.std.proofs.Common.{◌≡◌, ℕ, ◌+◌, ◌*◌, ◌/◌, ◌%◌, ◌<◌, ◌≤◌, Bool, ◌&&◌, eqb, ltb, List, None, Option, length, get_or, set, sym, ap, ◌∙◌, inl, inr, mul_comm, arith}
+use Rattle.std.proofs.lemmas.Nat.{mul-le, mul-add-lt, div-mul-add, mod-mul-add}
+use Rattle.std.proofs.lemmas.List.{get_or_past, get_or-set_same, get_or-set_other}
+use Rattle.std.proofs.lemmas.Bool.{cases_lt, lt-ltb, le-ltb, cases_Bool, and_parts, and_cases, eqb-true, eqb-false, cond-true, cond-false}
 use Rattle.reading.specs.declared.reports.Reports.{Reports}
-use Rattle.reading.specs.Reports.{Report, Kept, cell, put_at, shown, view}
+use Rattle.reading.specs.Reports.{Report, Kept, cell, late, put_at, shown, view}
 use Rattle.reading.proofs.Views.{shown_same}
 
 -- an entry of a row is within the memory
@@ -42,10 +42,22 @@ cell_set n p b k x room hb hk c j hj =
           ∙ sym (cond-false (eqb b c && eqb k j) x (cell n p c j) e)
     ]
 
+-- of servers from n on nothing is reported
+module _ {S V : Type 0} (r : Reports S V) where
+  pub cell_past : (b k : ℕ) → r.n ≤ b → cell r.n r.entries.now b k ≡ None
+  cell_past b k l = get_or_past r.entries.now (b * (r.n + 1) + k) None (omega (arith, r.room, mul-le r.n (r.n + 1) b (r.n + 1) l (omega arith)))
+
+  pub cell_late : (b : ℕ) → cell r.n r.entries.now b r.n ≡ late r.n (cell r.n r.entries.now) b
+  cell_late b =
+      elim (cases_lt b r.n) [
+        | inl l ↦ sym (cond-true (ltb b r.n) (cell r.n r.entries.now b r.n) None (lt-ltb b r.n l))
+        | inr l ↦ cell_past b r.n l ∙ sym (cond-false (ltb b r.n) (cell r.n r.entries.now b r.n) None (le-ltb b r.n l))
+      ]
+
 -- what is known after an entry is written
 module _ {S V : Type 0} (r q : Reports S V) (b k : ℕ) (x : Report S V) (hb : b < r.n) (hk : k ≤ r.n) (written : q.entries.now ≡ set r.entries.now (b * (r.n + 1) + k) x) where
   pub put_cell : (c j : ℕ) → j ≤ r.n → cell r.n q.entries.now c j ≡ put_at (cell r.n r.entries.now) b k x c j
-  put_cell c j l = ap (λ p. cell r.n p c j) written ∙ cell_set r.n r.entries.now b k x r.room hb hk c j l
+  put_cell c j l = ap (λ p. cell r.n p c j) written ∙ cell_set r.n r.entries.now b k x (omega (arith, r.room)) hb hk c j l
 
   pub put_view : (above : S → S → Bool) (d : S × V) → Kept r q → view above d q.n q.entries.now ≡ shown above d r.n (put_at (cell r.n r.entries.now) b k x)
   put_view above d kept =

@@ -1,8 +1,8 @@
 -- The servers from the last to the first, as a range gives them in reverse.
-use Rattle.std.proofs.Common.{◌≡◌, ℕ, zero, suc, ◌+◌, ◌-◌, List, [], ◌∷◌, length, Bool, true, false, ltb, ◌<◌, Option, None, Some, cond, refl, sym, ap, ap₂, ◌∙◌, arith, subst}
+use Rattle.std.proofs.Common.{inl, inr, ◌≤◌, ◌≡◌, ℕ, zero, suc, ◌+◌, ◌-◌, List, [], ◌∷◌, length, Bool, true, false, ltb, Option, None, Some, cond, refl, sym, ap, ap₂, ◌∙◌, arith, subst}
 use Rattle.std.specs.List.{find, fold}
 use Rattle.std.specs.Option.{option_and_then, option_map}
-use Rattle.std.proofs.lemmas.Bool.{cond-true, lt-ltb}
+use Rattle.std.proofs.lemmas.Bool.{cases_lt, cond-true, cond-false, lt-ltb, le-ltb}
 use Rattle.std.proofs.lemmas.Iterator.Adapters.{option_map_id}
 use Rattle.std.specs.Iterator.{AlwaysYields}
 use Rattle.std.specs.Iterator.Adapters.{rev_steps, rev_source}
@@ -58,11 +58,20 @@ module _ {S V : Type 0} (above : S → S → Bool) (g : Grid S V) (b : ℕ) (t :
       ap (λ k. cond (watches above g t n) (content (g b n)) k) (kept_last n) ∙ picked (watches above g t n) (λ j. content (g b j)) n rest
       ∙ ap (λ i. option_and_then (λ j. content (g b j)) (cond (watches above g t i) (Some i) rest)) all
 
-  -- the slot that was found has the evidence
-  pub kept_found : (n : ℕ) (r : Option ℕ) → b < n → option_map (λ j. j) r ≡ find (watches above g t) (countdown 0 n) → cond (ltb b n) (kept above g b t n) None ≡ option_and_then (λ j. content (g b j)) r
-  kept_found n r row found =
-      cond-true (ltb b n) (kept above g b t n) None (lt-ltb b n row) ∙ kept_last n
-      ∙ ap (λ o. option_and_then (λ j. content (g b j)) o) (sym found ∙ option_map_id r)
+  -- of a server that reports nothing in any slot
+  nothing : (r : Option ℕ) → ((j : ℕ) → g b j ≡ None) → option_and_then (λ j. content (g b j)) r ≡ None
+  nothing None past = refl
+  nothing (Some j) past = ap content (past j)
+
+  -- the slot that was found has the evidence; servers from n on report nothing
+  pub kept_found : (n : ℕ) (r : Option ℕ) → (n ≤ b → (j : ℕ) → g b j ≡ None) → option_map (λ j. j) r ≡ find (watches above g t) (countdown 0 n)
+      → cond (ltb b n) (kept above g b t n) None ≡ option_and_then (λ j. content (g b j)) r
+  kept_found n r past found =
+      elim (cases_lt b n) [
+        | inl l ↦ cond-true (ltb b n) (kept above g b t n) None (lt-ltb b n l) ∙ kept_last n
+            ∙ ap (λ o. option_and_then (λ j. content (g b j)) o) (sym found ∙ option_map_id r)
+        | inr l ↦ cond-false (ltb b n) (kept above g b t n) None (le-ltb b n l) ∙ sym (nothing r (past l))
+      ]
 
 -- ---- a decision slot by slot, the last first
 module _ {S V : Type 0} (K : Rules S V) (r : Reading S V) (g : Grid S V) where

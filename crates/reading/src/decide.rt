@@ -22,7 +22,6 @@ fn better<S: Timestamp, V: Value>(timestamp: S, value: V, rest: Option<(S, V)>) 
 impl<S: Timestamp, V: Value> Reports<'_, S, V> {
     // Whether the server's evidence for the timestamp is this value.
     fn is_backer(&self, timestamp: S, value: V, server: u8) -> bool
-        requires row { server < self.now.n }
         ensures { result ≡ backers V.same (known S.Timestamp V.Value self.now) timestamp value server }
     {
         self.evidence_of(server, timestamp)
@@ -51,7 +50,6 @@ impl<S: Timestamp, V: Value> Reports<'_, S, V> {
         server: u8,
         rest: Option<V>,
     ) -> Option<V>
-        requires row { server < self.now.n }
         ensures { result ≡ value_of (λ v. Q.quorum system.now (backers V.same (known S.Timestamp V.Value self.now) timestamp v)) ((known S.Timestamp V.Value self.now).evidence server timestamp) rest }
     {
         match self.evidence_of(server, timestamp) {

@@ -21,7 +21,6 @@ impl<S: Timestamp, V: Value> Reports<'_, S, V> {
 
     // The server's evidence for the timestamp.
     pub(crate) fn evidence_of(&self, server: u8, timestamp: S) -> Option<V>
-        requires row { server < self.now.n }
         ensures { result ≡ (known S.Timestamp V.Value self.now).evidence server timestamp }
     {
         let slot = (0..self.n)
@@ -45,10 +44,9 @@ impl<S: Timestamp, V: Value> Reports<'_, S, V> {
 
     // What the server has for the timestamp: its latest value, or its evidence.
     fn known_for(&self, server: u8, timestamp: S) -> Option<V>
-        requires row { server < self.now.n }
         ensures { result ≡ has S.above (known S.Timestamp V.Value self.now) server timestamp }
     {
-        match self.entry(server, self.n) {
+        match self.last(server) {
             Some((latest, value)) if is_level(latest, timestamp) => Some(value),
             _ => self.evidence_of(server, timestamp),
         }
@@ -56,8 +54,6 @@ impl<S: Timestamp, V: Value> Reports<'_, S, V> {
 
     // The entry of what the server has for the latest timestamp of the slot's server.
     fn fresh(&self, server: u8, slot: u8) -> Report<S, V>
-        requires row { server < self.now.n }
-        requires column { slot < self.now.n }
         ensures { result ≡ fresh S.above (known S.Timestamp V.Value self.now) server slot }
     {
         let timestamp = self.latest(slot);
@@ -67,8 +63,6 @@ impl<S: Timestamp, V: Value> Reports<'_, S, V> {
 
     // The server's entry in the slot after a server has entered.
     fn anew(&self, leading: ServerSet, server: u8, slot: u8) -> Report<S, V>
-        requires row { server < self.now.n }
-        requires column { slot < self.now.n }
         ensures { result ≡ anew S.above (members leading) (known S.Timestamp V.Value self.now) server slot }
     {
         if leading.contains(slot) {

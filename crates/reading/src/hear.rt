@@ -36,7 +36,7 @@ fn learn<Q: QuorumSystem, S: Timestamp, V: Value>(
     value: V,
 ) -> Option<(S, V)>
     requires few { n ≤ 16 }
-    requires room { n * (n + 1) ≤ length part.old }
+    requires room { length part.old ≡ n * (n + 1) }
     requires row { server < n }
     ensures after { view S.above (S.lowest, V.initial_value) n part.new ≡ after_value (rules_for Q.QuorumSystem S.Timestamp V.Value n system.now) (S.lowest, V.initial_value) part.old server timestamp value }
     ensures answer { result ≡ decided (rules_for Q.QuorumSystem S.Timestamp V.Value n system.now) (S.lowest, V.initial_value) part.old server timestamp value }

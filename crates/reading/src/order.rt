@@ -2,35 +2,39 @@
 ghost use Rattle.std.specs.Prelude.{◌≡◌, ◌<◌};
 ghost use Rattle.quorums.specs.Sets.{members};
 ghost use Rattle.reading.specs.Readings.{rules_for, ahead, newer, raised, leads};
-ghost use Rattle.reading.specs.Reports.{Kept, known};
+ghost use Rattle.reading.specs.Reports.{Kept, cell, late, known};
 
-use crate::reports::Reports;
+use crate::reports::{Report, Reports};
 use quorums::QuorumSystem;
 use quorums::sets::ServerSet;
 use timestamps::Timestamp;
 use values::Value;
 
 impl<S: Timestamp, V: Value> Reports<'_, S, V> {
+    // The server's latest report; of a server from n on there is none.
+    pub(crate) fn last(&self, server: u8) -> Report<S, V>
+        ensures { result ≡ late self.now.n (cell self.now.n self.now.entries.now) server }
+    {
+        self.entry(server, self.n)
+    }
+
     // Whether the server has entered.
     fn has_entered(&self, server: u8) -> bool
-        requires row { server < self.now.n }
         ensures { result ≡ (known S.Timestamp V.Value self.now).entered server }
     {
-        self.entry(server, self.n).is_some()
+        self.last(server).is_some()
     }
 
     // The server's latest timestamp; the initial one, where it has not entered.
     pub(crate) fn latest(&self, server: u8) -> S
-        requires row { server < self.now.n }
         ensures { result ≡ (known S.Timestamp V.Value self.now).latest server }
     {
-        self.entry(server, self.n)
+        self.last(server)
             .map_or(S::initial(), |(timestamp, _)| timestamp)
     }
 
     // Whether the timestamp would be the server's latest: of equals the earlier stays.
     fn is_newer(&self, server: u8, timestamp: S) -> bool
-        requires row { server < self.now.n }
         ensures { result ≡ newer S.above (known S.Timestamp V.Value self.now) server timestamp }
     {
         !self.has_entered(server) || timestamp.is_above(self.latest(server))
@@ -52,8 +56,6 @@ impl<S: Timestamp, V: Value> Reports<'_, S, V> {
 
     // Whether another server is ahead of the server.
     fn is_ahead(&self, server: u8, other: u8) -> bool
-        requires row { server < self.now.n }
-        requires second { other < self.now.n }
         ensures { result ≡ ahead S.above (known S.Timestamp V.Value self.now) server other }
     {
         let own = self.latest(server);
@@ -63,7 +65,6 @@ impl<S: Timestamp, V: Value> Reports<'_, S, V> {
 
     // The servers that are ahead of the server.
     fn ahead_of(&self, server: u8) -> ServerSet
-        requires row { server < self.now.n }
         ensures { members result ≡ ahead S.above (known S.Timestamp V.Value self.now) server }
     {
         ServerSet::of(self.n, |other| self.is_ahead(server, other))
@@ -71,7 +72,6 @@ impl<S: Timestamp, V: Value> Reports<'_, S, V> {
 
     // Whether the server leads.
     fn is_leader<Q: QuorumSystem>(&self, system: &Q, server: u8) -> bool
-        requires row { server < self.now.n }
         ensures { result ≡ leads (rules_for Q.QuorumSystem S.Timestamp V.Value self.now.n system.now) (known S.Timestamp V.Value self.now) server }
     {
         self.has_entered(server) && system.is_fail_prone(self.ahead_of(server))

@@ -14,14 +14,14 @@ pub(crate) struct Reports<'a, S, V> {
     pub(crate) entries: &'a mut [Report<S, V>],
     pub(crate) n: u8,
     ghost few: { n ≤ 16 },
-    ghost room: { n * (n + 1) ≤ length entries.now },
+    ghost room: { length entries.now ≡ n * (n + 1) },
 }
 
 impl<'a, S, V> Reports<'a, S, V> {
     // The reports of n servers in this memory.
     pub(crate) fn new(entries: &'a mut [Report<S, V>], n: u8) -> Reports<'a, S, V>
         requires few { n ≤ 16 }
-        requires room { n * (n + 1) ≤ length entries.old }
+        requires room { length entries.old ≡ n * (n + 1) }
         ensures memory { result.entries.ghost_name ≡ entries.entry.ghost_name }
         ensures content { result.entries.now ≡ entries.old }
         ensures servers { result.n ≡ n }
