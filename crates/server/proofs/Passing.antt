@@ -1,22 +1,30 @@
 -- The pair of a STORE passed on, client by client. Assumes nothing.
-use Rattle.std.proofs.Common.{◌≡◌, ℕ, zero, suc, ◌+◌, ◌-◌, ◌<◌, ◌≤◌, Bool, true, false, cond, not, ◌&&◌, ◌||◌, eqb, ltb, leb, List, [], ◌∷◌, ◌++◌, length, get_or, set, is_some, Some, None, Option, sym, refl, ap, ◌∙◌, ap₂, inl, inr, add-one, arith}
+use Rattle.std.proofs.Common.{◌≡◌, ℕ, zero, suc, ◌+◌, ◌-◌, ◌<◌, ◌≤◌, Bool, true, false, cond, not, ◌&&◌, ◌||◌, eqb, ltb, leb, List, [], ◌∷◌, ◌++◌, length, get_or, set, is_some, Some, None, Option, Ok, Result, sym, refl, ap, ◌∙◌, ap₂, inl, inr, add-one, arith}
 use mathlib.Core.Path.{fun_ext}
+use Rattle.std.specs.List.{count_by}
+use Rattle.std.proofs.lemmas.List.Recursion.{is_count_by}
 use Rattle.std.proofs.lemmas.List.{append-nil, length-append, get_or_read, get_or-set_same, get_or-set_other}
 use Rattle.std.proofs.lemmas.Bool.{cond-true, cond-false, cases_eq, eq-eqb, ne_eqb, and_parts, or_parts, not-false, both_ways, ltb-false, leb-false, leb-true}
-use Rattle.calls.specs.Refusals.{first_failed}
+use Rattle.calls.specs.Refusals.{first_failed, passed as passed_checks}
+use Rattle.calls.specs.declared.Refusal.{Refusal}
 use Rattle.calls.specs.declared.Refusal.TheVariants.{Memory, NetworkFull, TokenOut}
 use Rattle.calls.proofs.Checks.{passes_first}
-use Rattle.network.specs.Queues.{sized, below, fits, Room}
+use Rattle.network.specs.Queues.{sized, below, fits, send_checks, Room}
 use Rattle.network.specs.declared.message.Message.{Message}
 use Rattle.network.specs.declared.queue.Network.{Network}
 use Rattle.server.specs.declared.state.Listener.{Listener}
 use Rattle.server.specs.Serving.{silent, updated, wants, wanting, passed, passed_on}
-use Rattle.server.specs.Receiving.{listener_in, receive_checks}
+use Rattle.server.specs.Receiving.{listener_in, row_checks}
 
 module _ {S : Type 0} (above : S → S → Bool) (f : ℕ → Listener S) (t : S) where
   -- one client more
   pub wanting_more : (i : ℕ) → wanting above f t (i + 1) ≡ wanting above f t i + cond (wants above (f i) t) 1 0
   wanting_more i = ap (wanting above f t) (add-one i)
+
+  -- the first client, and those behind it
+  pub wanting_first : (n : ℕ) → wanting above f t (suc n) ≡ cond (wants above (f 0) t) 1 0 + wanting above (λ i. f (suc i)) t n
+  wanting_first zero = omega arith
+  wanting_first (suc n) = omega (arith, wanting_first n)
 
   at_most_one : (b : Bool) → cond b 1 0 ≤ 1
   at_most_one true = omega arith
@@ -41,6 +49,22 @@ module _ {S : Type 0} (above : S → S → Bool) (f : ℕ → Listener S) (t : S
       let one : wanting above f t (i + 1) ≡ wanting above f t i + 1 = wanting_more i ∙ ap (λ x. wanting above f t i + x) (cond-true (wants above (f i) t) 1 0 want) in
       let h = ap (wanting above f t) sum in
       omega (arith, one, wanting_grows (i + 1) k)
+
+-- how many listeners of a row want a timestamp
+pub wanting_counted : {S : Type 0} (above : S → S → Bool) (lowest t : S) (row : List (Listener S))
+    → count_by (λ x. wants above x t) row ≡ wanting above (listener_in lowest row) t (length row)
+wanting_counted {S} above lowest t row =
+    let F : List (Listener S) → ℕ = λ row. wanting above (listener_in lowest row) t (length row) in
+    sym (is_count_by F (λ x. wants above x t) refl (λ x xs. one x xs) row)
+  where
+    added : (b : Bool) (n : ℕ) → cond b 1 0 + n ≡ cond b (1 + n) n
+    added true n = omega arith
+    added false n = omega arith
+
+    one : (x : Listener S) (xs : List (Listener S))
+        → wanting above (listener_in lowest (x ∷ xs)) t (length (x ∷ xs))
+        ≡ cond (wants above x t) (1 + wanting above (listener_in lowest xs) t (length xs)) (wanting above (listener_in lowest xs) t (length xs))
+    one x xs = wanting_first above (listener_in lowest (x ∷ xs)) t (length xs) ∙ added (wants above x t) (wanting above (listener_in lowest xs) t (length xs))
 
 module _ {S V : Type 0} (above : S → S → Bool) (m : Message S V) (f : ℕ → Listener S) where
   -- a client that wants the pair gets it behind those before it
@@ -95,18 +119,22 @@ listener_set lowest row client x within = fun_ext (λ j. at j)
 pub room_fewer : (net : Network) (room more fewer : ℕ) → fewer ≤ more → Room net room more → Room net room fewer
 room_fewer net room more fewer le r = record { sizes = r.sizes; none_lifted = r.none_lifted; left = omega (arith, r.left) }
 
--- where no check of a received message fails, its client is in the row and there is room for what is sent
-pub checks_passed : (net : Network) (room clients client sending : ℕ) → first_failed (receive_checks net room clients client sending) ≡ None
+-- where nothing is refused, no check fails
+pub none_failed : (o : Option Refusal) (u : Unit) → passed_checks o ≡ Ok u → o ≡ None
+none_failed None u e = refl
+none_failed (Some x) u e = let z : ◌≡◌ {A = ℕ} 0 1 = cc in absurd (omega arith)
+
+-- where neither a check of the row nor one of sending fails, the client is in the row and there is room for what is sent
+pub checks_passed : (net : Network) (room clients client sending : ℕ)
+    → first_failed (row_checks clients client) ≡ None → first_failed (send_checks net room sending) ≡ None
     → (clients ≤ 64) × (client < clients) × Room net room sending
-checks_passed net room clients client sending passed =
-    let unlimited = ltb 64 clients || leb clients client in
-    let memory = passes_first (not (fits net room) || unlimited) Memory
-    ((is_some net.lifted, TokenOut) ∷ ((ltb (net.capacity - net.len) sending, NetworkFull) ∷ [])) passed in
+checks_passed net room clients client sending known admitted =
+    let row = passes_first (ltb 64 clients || leb clients client) Memory [] known in
+    let memory = passes_first (not (fits net room)) Memory ((is_some net.lifted, TokenOut) ∷ ((ltb (net.capacity - net.len) sending, NetworkFull) ∷ [])) admitted in
     let token = passes_first (is_some net.lifted) TokenOut ((ltb (net.capacity - net.len) sending, NetworkFull) ∷ []) memory.1 in
     let full = passes_first (ltb (net.capacity - net.len) sending) NetworkFull [] token.1 in
-    let either = or_parts (not (fits net room)) unlimited memory.0 in
-    let limits = or_parts (ltb 64 clients) (leb clients client) either.1 in
-    let fitting : fits net room ≡ true = not-false (fits net room) either.0 in
+    let limits = or_parts (ltb 64 clients) (leb clients client) row.0 in
+    let fitting : fits net room ≡ true = not-false (fits net room) memory.0 in
     let parts = and_parts (sized net.capacity room) (leb net.len net.capacity && below net.lifted net.len) fitting in
     let inner = and_parts (leb net.len net.capacity) (below net.lifted net.len) parts.1 in (
       ltb-false 64 clients limits.0,

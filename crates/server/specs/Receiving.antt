@@ -23,6 +23,10 @@ pub record Reacted {S V : Type 0} (lowest : S) (net : Network) (memory : List (M
   pub state_after : state_of lowest server' row' ≡ r.after
   pub sent_after : Sent net memory r.sent net' memory'
 
+-- the check that a client is in a row of so many clients, within the limits
+abbrev pub row_checks : (clients client : ℕ) → List Check
+row_checks clients client = (nat_lt 64 clients || nat_le clients client, Memory) ∷ []
+
 -- the checks of a message received, in order: memory, limits and the client; a lifted message; room
 abbrev pub receive_checks : Network → (room clients client sending : ℕ) → List Check
 receive_checks net room clients client sending =

@@ -1,5 +1,5 @@
 // How a server listens to its clients: a row of listeners, client 0 first.
-ghost use Rattle.std.specs.Prelude.{◌≡◌, ◌<◌, length, nat_le, nat_lt};
+ghost use Rattle.std.specs.Prelude.{◌≡◌, ◌<◌, length, nat_le, nat_lt, count_by};
 ghost use Rattle.server.specs.Serving.{silent, updated, wants, wanting, passed};
 ghost use Rattle.server.specs.Receiving.{listener_in};
 
@@ -42,29 +42,26 @@ impl<S: Timestamp> Listener<S> {
 
 // How many clients of the row want a timestamp.
 pub(crate) fn count_wanting<S: Timestamp>(listeners: &[Listener<S>], timestamp: S) -> usize
-    ensures { result ≡ wanting S.above (listener_in S.lowest listeners.now) timestamp (length listeners.now) }
+    ensures { result ≡ count_by (λ listener. wants S.above listener timestamp) listeners.now }
 {
-    let mut count = 0;
-    for listener in listeners.iter() {
-        if listener.wants(timestamp) {
-            count += 1;
-        }
-    }
-    count
+    listeners
+        .iter()
+        .filter(|listener| listener.wants(timestamp))
+        .count()
 }
 
-// How the server listens to a client, read field by field.
+// How the server listens to a client.
+// Kept: a record in lent memory is read field by field.
 pub(crate) fn listener_of<S: Timestamp>(listeners: &[Listener<S>], client: u8) -> Listener<S>
     ensures { result ≡ listener_in S.lowest listeners.now client }
 {
-    let place = client as usize;
-    if place >= listeners.len() {
+    let Some(listener) = listeners.get(usize::from(client)) else {
         return Listener::silent();
-    }
+    };
     Listener {
-        number: listeners[place].number,
-        listening: listeners[place].listening,
-        start: listeners[place].start,
+        number: listener.number,
+        listening: listener.listening,
+        start: listener.start,
     }
 }
 
@@ -97,5 +94,5 @@ pub(crate) fn set_listener<S: Timestamp>(
     requires { client < length listeners.old }
     ensures { listener_in S.lowest listeners.new ≡ updated (listener_in S.lowest listeners.old) client listener }
 {
-    listeners[client as usize] = listener;
+    listeners[usize::from(client)] = listener;
 }

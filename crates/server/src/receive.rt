@@ -1,10 +1,10 @@
 // What a server does with a message.
 ghost use Rattle.std.specs.Prelude.{◌≡◌, ◌<◌, ◌≤◌, false, length};
-ghost use Rattle.calls.specs.Refusals.{first_failed};
+ghost use Rattle.calls.specs.Refusals.{first_failed, passed};
 ghost use Rattle.network.specs.Kinds.{kind_of};
 ghost use Rattle.network.specs.Queues.{Room, Sent};
 ghost use Rattle.server.specs.Serving.{on_query, on_store, on_read, on_stop, by_kind, reaction};
-ghost use Rattle.server.specs.Receiving.{state_of, Reacted, receive_checks, reacts, Received};
+ghost use Rattle.server.specs.Receiving.{state_of, Reacted, row_checks, reacts, Received};
 
 use crate::listeners::{count_wanting, is_current, is_new, listener_of, set_listener};
 use crate::sending::{pass_on, reply, send};
@@ -32,12 +32,9 @@ impl<S: Timestamp, V: Value> Server<S, V> {
     pub fn replies(&self, listeners: &[Listener<S>], message: Message<S, V>, faulty: bool) -> usize
         ensures { result ≡ length (reacts S.above S.lowest V.initial_value faulty self.now listeners.now message).sent }
     {
-        if faulty {
-            return 0;
-        }
         match Kind::try_from(message.kind) {
-            Ok(kind) => replies_by_kind(kind, listeners, message),
-            Err(_) => 0,
+            Ok(kind) if !faulty => replies_by_kind(kind, listeners, message),
+            _ => 0,
         }
     }
 
@@ -53,15 +50,8 @@ impl<S: Timestamp, V: Value> Server<S, V> {
         ensures { Received S.above S.lowest V.initial_value faulty self.old listeners.old network.old memory.old message result self.new listeners.new network.new memory.new }
     {
         let sending = self.replies(listeners, message, faulty);
-        if let Some(refusal) = refuses(
-            *network,
-            memory.len(),
-            listeners.len(),
-            message.client,
-            sending,
-        ) {
-            return Err(refusal);
-        }
+        is_in_row(listeners.len(), message.client)?;
+        network.admits(memory.len(), sending)?;
         if !faulty {
             self.react(listeners, network, memory, message);
         }
@@ -81,9 +71,8 @@ impl<S: Timestamp, V: Value> Server<S, V> {
         requires room { Room network.old (length memory.old) (length (reacts S.above S.lowest V.initial_value false self.old listeners.old message).sent) }
         ensures { Reacted S.lowest network.old memory.old (reacts S.above S.lowest V.initial_value false self.old listeners.old message) self.new listeners.new network.new memory.new }
     {
-        match Kind::try_from(message.kind) {
-            Ok(kind) => self.react_by_kind(kind, listeners, network, memory, message),
-            Err(_) => {}
+        if let Ok(kind) = Kind::try_from(message.kind) {
+            self.react_by_kind(kind, listeners, network, memory, message);
         }
     }
 
@@ -106,9 +95,7 @@ impl<S: Timestamp, V: Value> Server<S, V> {
             Kind::Store => self.answer_store(listeners, network, memory, message),
             Kind::Read => self.answer_read(listeners, network, memory, message),
             Kind::Stop => self.answer_stop(listeners, message),
-            Kind::Ts => {}
-            Kind::Ack => {}
-            Kind::Value => {}
+            Kind::Ts | Kind::Ack | Kind::Value => {}
         }
     }
 
@@ -210,26 +197,14 @@ impl<S: Timestamp, V: Value> Server<S, V> {
     }
 }
 
-// Why a message is refused, if it is.
-fn refuses(
-    network: Network,
-    room: usize,
-    clients: usize,
-    client: u8,
-    sending: usize,
-) -> Option<Refusal>
-    ensures { result ≡ first_failed (receive_checks network room clients client sending) }
+// Whether a client is in a row of so many clients that is within the limits.
+fn is_in_row(clients: usize, client: u8) -> Result<(), Refusal>
+    ensures { result ≡ passed (first_failed (row_checks clients client)) }
 {
-    if !network.fits(room) || clients > MOST_CLIENTS || client as usize >= clients {
-        return Some(Refusal::Memory);
+    if clients > MOST_CLIENTS || usize::from(client) >= clients {
+        return Err(Refusal::Memory);
     }
-    if network.lifted.is_some() {
-        return Some(Refusal::TokenOut);
-    }
-    if sending > network.capacity - network.len {
-        return Some(Refusal::NetworkFull);
-    }
-    None
+    Ok(())
 }
 
 // How many messages a message of a kind brings.
@@ -244,10 +219,7 @@ fn replies_by_kind<S: Timestamp, V: Value>(
         Kind::Query => 1,
         Kind::Store => replies_to_store(listeners, message),
         Kind::Read => replies_to_read(listeners, message),
-        Kind::Stop => 0,
-        Kind::Ts => 0,
-        Kind::Ack => 0,
-        Kind::Value => 0,
+        Kind::Stop | Kind::Ts | Kind::Ack | Kind::Value => 0,
     }
 }
 
@@ -268,5 +240,5 @@ fn replies_to_read<S: Timestamp, V: Value>(
 ) -> usize
     ensures { (server : _) → result ≡ length (on_read S.above S.lowest V.initial_value (state_of S.lowest server listeners.now) message).sent }
 {
-    if is_new(listeners, message) { 1 } else { 0 }
+    usize::from(is_new(listeners, message))
 }

@@ -2,7 +2,7 @@ use Rattle.std.proofs.Common.{◌≡◌, ℕ, length, sym, ap, ◌∙◌, subst}
 use Rattle.network.specs.Queues.{Room}
 use Rattle.server.specs.Serving.{reaction}
 use Rattle.server.specs.Receiving.{state_of}
-use Rattle.server.proofs.Passing.{checks_passed}
+use Rattle.server.proofs.Passing.{none_failed, checks_passed}
 use Rattle.server.proofs.state.Server.receive.Goals as goal
 
 pub react-requires : goal.react-requires
@@ -11,7 +11,8 @@ react-requires g c =
     let row = c.args.listeners.now in
     let net = c.args.network.now in
     let room = length c.args.memory.now in
-    let passed = checks_passed net room (length row) c.args.message.client c.replies-sending.result (sym c.refuses.ensures ∙ c.in_default.is) in
+    let passed = checks_passed net room (length row) c.args.message.client c.replies-sending.result
+    (none_failed _ _ (sym c.is_in_row.ensures ∙ c.in_ok-is_in_row.was)) (none_failed _ _ (sym c.admits.ensures ∙ c.in_ok-admits.was)) in
     let counted : ◌≡◌ {A = ℕ} c.replies-sending.result
     (length (reaction g.S.Timestamp.above lowest g.V.Value.initial_value c.args.faulty (length row) (state_of lowest c.args.self.now row) c.args.message).sent) =
     c.replies-sending.ensures in
