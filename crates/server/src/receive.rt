@@ -32,10 +32,10 @@ impl<S: Timestamp, V: Value> Server<S, V> {
     pub fn replies(&self, listeners: &[Listener<S>], message: Message<S, V>, faulty: bool) -> usize
         ensures { result ≡ length (reacts S.above S.lowest V.initial_value faulty self.now listeners.now message).sent }
     {
-        match Kind::try_from(message.kind) {
-            Ok(kind) if !faulty => replies_by_kind(kind, listeners, message),
-            _ => 0,
+        if faulty {
+            return 0;
         }
+        Kind::try_from(message.kind).map_or(0, |kind| replies_by_kind(kind, listeners, message))
     }
 
     // Takes a message: a correct server does what the protocol says, and a faulty one nothing.
@@ -183,14 +183,14 @@ impl<S: Timestamp, V: Value> Server<S, V> {
         ensures { state_of S.lowest self.now listeners.new ≡ (on_stop S.above S.lowest V.initial_value (state_of S.lowest self.now listeners.old) message).after }
     {
         if is_current(listeners, message) {
-            let start = listener_of(listeners, message.client).start;
+            let last = listener_of(listeners, message.client);
             set_listener(
                 listeners,
                 message.client,
                 Listener {
                     number: message.number,
                     listening: false,
-                    start,
+                    ..last
                 },
             );
         }
