@@ -1,5 +1,5 @@
 // A network, one server and two clients, told line by line.
-use anyhow::anyhow;
+use anyhow::{Context, ensure};
 use network::message::{Kind, Message};
 use network::queue::Network;
 use quorums::QuorumSystem;
@@ -39,40 +39,25 @@ pub(crate) fn from_client(client: u8, kind: Kind, number: u32) -> Note {
     }
 }
 
-// What memory holds before the first message.
-fn blank() -> Note {
-    from_client(0, Kind::Query, 0)
-}
-
-// The name of the kind that a byte stands for.
-fn name_of(kind: u8) -> &'static str {
-    match Kind::try_from(kind) {
-        Ok(Kind::Query) => "QUERY",
-        Ok(Kind::Ts) => "TS",
-        Ok(Kind::Store) => "STORE",
-        Ok(Kind::Ack) => "ACK",
-        Ok(Kind::Read) => "READ",
-        Ok(Kind::Value) => "VALUE",
-        Ok(Kind::Stop) => "STOP",
-        Err(_) => "no kind",
-    }
-}
-
 // A message in words: timestamps and totals only where its kind carries them.
 #[derive(Drop)]
 struct InWords(Note);
 
 impl fmt::Display for InWords {
     fn fmt<W: fmt::Write>(&self, f: &mut fmt::Formatter<W>) -> fmt::Result {
-        let name = name_of(self.0.kind);
+        let kind = Kind::try_from(self.0.kind);
+        match kind {
+            Ok(kind) => write!(f, "{kind}")?,
+            Err(unknown) => write!(f, "{unknown}")?,
+        }
         let number = self.0.number;
         let client = self.0.client;
-        write!(f, "{name} {number} of client {client}")?;
+        write!(f, " {number} of client {client}")?;
         let timestamp = self.0.timestamp.number;
         let total = self.0.value.pence;
-        match Kind::try_from(self.0.kind) {
-            Ok(Kind::Ts) | Ok(Kind::Ack) => write!(f, " with timestamp {timestamp}"),
-            Ok(Kind::Store) | Ok(Kind::Value) => write!(
+        match kind {
+            Ok(Kind::Ts | Kind::Ack) => write!(f, " with timestamp {timestamp}"),
+            Ok(Kind::Store | Kind::Value) => write!(
                 f,
                 " with timestamp {timestamp} and total {total}"
             ),
@@ -89,7 +74,7 @@ impl Exchange {
         println!(rt;
             "Open a threshold quorum system of {servers} server and no fault: {needed} server is a quorum."
         )?;
-        let memory = [blank(); 8];
+        let memory = [from_client(WRITER, Kind::Query, 0); 8];
         let network = Network::open(8, &memory)?;
         let capacity = network.capacity;
         println!(rt; "Open a network for {capacity} messages.")?;
@@ -112,9 +97,7 @@ impl Exchange {
 
     // Takes the message at a place and puts it back.
     pub(crate) fn look_at(&mut self, rt: &HostRuntime, place: usize) -> anyhow::Result<()> {
-        let (message, token) = self.network.take(&self.memory, place)?;
-        self.network.put_back(&self.memory, token);
-        let words = InWords(message);
+        let words = InWords(self.network.peek(&self.memory, place)?);
         println!(rt; "Take {words} from place {place}, and put it back.")?;
         Ok(())
     }
@@ -166,9 +149,9 @@ impl Exchange {
         self.serve(rt, place)?;
         let told = self.deliver(rt, place)?;
         self.expect_quorum(told)?;
-        let Some(timestamp) = Packed::next(WRITER, told.timestamp, Packed::initial()) else {
-            return Err(anyhow!("no timestamp is left"));
-        };
+        let timestamp = Packed::next(WRITER, told.timestamp, Packed::initial()).context(
+            "no timestamp is left",
+        )?;
         let chosen = timestamp.number;
         println!(rt; "The next timestamp of client {WRITER} is {chosen}.")?;
         let message = from_client(WRITER, Kind::Store, number);
@@ -189,12 +172,8 @@ impl Exchange {
 
     // The one server that a message is from is a quorum.
     fn expect_quorum(&self, message: Note) -> anyhow::Result<()> {
-        if !self
-            .system
-            .is_quorum(ServerSet::empty().with(message.server))
-        {
-            return Err(anyhow!("no quorum"));
-        }
+        let from = ServerSet::empty().with(message.server);
+        ensure!(self.system.is_quorum(from), "no quorum");
         Ok(())
     }
 
