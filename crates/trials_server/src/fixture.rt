@@ -1,4 +1,4 @@
-// A server with its listeners and its network, and what is seen of them.
+// A server with its listeners and its network.
 use calls::Refusal;
 use network::message::Message;
 use network::queue::Network;
@@ -6,32 +6,21 @@ use server::state::{Listener, Server};
 use timestamps::packed::Packed;
 use values::total::Total;
 
+pub const QUERY: u8 = 1;
+
+pub const TS: u8 = 2;
+
+pub const STORE: u8 = 3;
+
+pub const ACK: u8 = 4;
+
+pub const READ: u8 = 5;
+
+pub const VALUE: u8 = 6;
+
+pub const STOP: u8 = 7;
+
 pub type Note = Message<Packed, Total>;
-
-// A message with its timestamp and its total as numbers.
-#[derive(Clone, Copy, PartialEq, Eq, Debug)]
-pub struct Sent {
-    pub client: u8,
-    pub kind: u8,
-    pub number: u32,
-    pub timestamp: u64,
-    pub total: u64,
-}
-
-pub(crate) fn seen(client: u8, kind: u8, number: u32, timestamp: u64, total: u64) -> Sent {
-    Sent {
-        client,
-        kind,
-        number,
-        timestamp,
-        total,
-    }
-}
-
-// What the memory of a fixture holds before the first message.
-pub(crate) fn blank() -> Sent {
-    seen(0, 0, 0, 0, 0)
-}
 
 // A message between a client and server 7.
 pub(crate) fn note(client: u8, kind: u8, number: u32, timestamp: u64, total: u64) -> Note {
@@ -45,32 +34,45 @@ pub(crate) fn note(client: u8, kind: u8, number: u32, timestamp: u64, total: u64
     }
 }
 
-// How a server listens to a client.
-#[derive(Clone, Copy, PartialEq, Eq, Debug)]
-pub struct ListenerState {
-    pub number: u32,
-    pub listening: bool,
-    pub start: u64,
+// What the memory of a fixture holds before the first message.
+pub(crate) fn blank() -> Note {
+    note(0, 0, 0, 0, 0)
 }
 
-pub(crate) fn listens(number: u32, listening: bool, start: u64) -> ListenerState {
-    ListenerState {
-        number,
-        listening,
-        start,
+pub(crate) fn holds(timestamp: u64, total: u64) -> Server<Packed, Total> {
+    Server {
+        timestamp: Packed::new(timestamp),
+        value: Total::new(total),
     }
 }
 
-fn listener(state: ListenerState) -> Listener<Packed> {
+pub(crate) fn listens(number: u32, listening: bool, start: u64) -> Listener<Packed> {
     Listener {
-        number: state.number,
-        listening: state.listening,
-        start: Packed::new(state.start),
+        number,
+        listening,
+        start: Packed::new(start),
+    }
+}
+
+// Client 0 is listened to from a timestamp on, client 2 from 5 on, and client 1 no longer.
+pub(crate) fn two_listening(start: u64) -> [Listener<Packed>; 3] {
+    [
+        listens(3, true, start),
+        listens(8, false, 0),
+        listens(9, true, 5),
+    ]
+}
+
+pub(crate) fn record(capacity: usize, len: usize, lifted: Option<usize>) -> Network {
+    Network {
+        capacity,
+        len,
+        lifted,
     }
 }
 
 // A server with three clients, over a memory of four messages.
-#[derive(Drop)]
+#[derive(Clone, Copy, PartialEq, Eq, Debug)]
 pub struct Fixture {
     pub server: Server<Packed, Total>,
     pub listeners: [Listener<Packed>; 3],
@@ -80,81 +82,23 @@ pub struct Fixture {
 
 impl Fixture {
     // A server that holds timestamp 69 and total 1250, with so many messages in its network.
-    pub(crate) fn new(listening: [ListenerState; 3], len: usize) -> Fixture {
+    pub(crate) fn new(listeners: [Listener<Packed>; 3], len: usize) -> Fixture {
         Fixture {
-            server: Server {
-                timestamp: Packed::new(69),
-                value: Total::new(1250),
-            },
-            listeners: [
-                listener(listening[0]),
-                listener(listening[1]),
-                listener(listening[2]),
-            ],
-            network: Network {
-                capacity: 4,
-                len,
-                lifted: None,
-            },
-            memory: [note(0, 0, 0, 0, 0); 4],
+            server: holds(69, 1250),
+            listeners,
+            network: record(4, len, None),
+            memory: [blank(); 4],
         }
     }
 
-    // Takes a message: the number of the refusal, and 0 where there is none.
-    pub(crate) fn receive(&mut self, message: Note, faulty: bool) -> u8 {
-        let taken = self.server.receive(
+    // Takes a message.
+    pub(crate) fn receive(&mut self, message: Note, faulty: bool) -> Result<(), Refusal> {
+        self.server.receive(
             &mut self.listeners,
             &mut self.network,
             &mut self.memory,
             message,
             faulty,
-        );
-        match taken {
-            Ok(()) => 0,
-            Err(refusal) => u8::from(refusal),
-        }
-    }
-
-    // The message at a place; one from another server than 7 is seen as a message of client 255.
-    pub(crate) fn at(&self, place: usize) -> Sent {
-        if place >= 4 || self.memory[place].server != 7 {
-            return seen(255, 0, 0, 0, 0);
-        }
-        let message = self.memory[place];
-        seen(
-            message.client,
-            message.kind,
-            message.number,
-            message.timestamp.number,
-            message.value.pence,
         )
-    }
-
-    // The four messages of the memory, past the queue too.
-    pub(crate) fn all(&self) -> [Sent; 4] {
-        [self.at(0), self.at(1), self.at(2), self.at(3)]
-    }
-
-    // How the server listens to each client of the row.
-    pub(crate) fn listening(&self) -> [ListenerState; 3] {
-        [
-            self.listening_to(0),
-            self.listening_to(1),
-            self.listening_to(2),
-        ]
-    }
-
-    // How the server listens to a client of the row.
-    pub(crate) fn listening_to(&self, client: usize) -> ListenerState {
-        if client >= 3 {
-            return listens(0, false, 0);
-        }
-        let listener = self.listeners[client];
-        listens(listener.number, listener.listening, listener.start.number)
-    }
-
-    // The timestamp and the total held.
-    pub(crate) fn held(&self) -> (u64, u64) {
-        (self.server.timestamp.number, self.server.value.pence)
     }
 }
