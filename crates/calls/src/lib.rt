@@ -66,6 +66,7 @@ pub enum Call<S, V> {
     Forge {
         server: u8,
         client: u8,
+        // Kept: a byte, since a faulty server may send any.
         kind: u8,
         number: u32,
         timestamp: S,

@@ -13,7 +13,6 @@ use Rattle.network.specs.declared.queue.Network.{Network}
 use Rattle.network.proofs.Sending.{room_fits}
 use Rattle.protocol.specs.Protocol.{lift, lifted}
 use Rattle.client.specs.Showing.{messages_of}
-use Rattle.client.specs.Taking.{sending}
 use Rattle.client.specs.Sending.{Dispatched}
 use Rattle.client.specs.declared.state.Broadcast.{Broadcast}
 use Rattle.server.specs.Receiving.{receive_checks}

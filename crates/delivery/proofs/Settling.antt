@@ -15,7 +15,6 @@ use Rattle.server.specs.declared.state.Server.{Server}
 use Rattle.protocol.specs.Settings.{Setting}
 use Rattle.client.specs.Showing.{messages_of}
 use Rattle.client.specs.Taking.{sending}
-use Rattle.client.specs.Sending.{Dispatched}
 use Rattle.client.specs.declared.state.Client.{Client}
 use Rattle.client.specs.declared.state.Broadcast.{Broadcast}
 use Rattle.client.proofs.Weighing.{length-messages}

@@ -1,5 +1,6 @@
 // The delivery of a message that stands in the queue, over the memory of a whole register.
 ghost use Rattle.std.specs.Prelude.{◌≡◌, ◌<◌, true, length, Some};
+ghost use Rattle.calls.specs.Answers.{answer_of};
 ghost use Rattle.network.specs.Kinds.{kind_of};
 ghost use Rattle.network.specs.Queues.{fits};
 ghost use Rattle.protocol.specs.Settings.{setting_of};
@@ -23,10 +24,7 @@ use values::Value;
 pub fn is_from_server(kind: Kind) -> bool
     ensures { result ≡ from_server kind }
 {
-    match kind {
-        Kind::Ts | Kind::Ack | Kind::Value => true,
-        Kind::Query | Kind::Store | Kind::Read | Kind::Stop => false,
-    }
+    matches!(kind, Kind::Ts | Kind::Ack | Kind::Value)
 }
 
 // The kind of a message that names a client, a server and a kind that are there.
@@ -52,14 +50,14 @@ fn hand_by_kind<Q: QuorumSystem, S: Timestamp, V: Value>(
     message: Message<S, V>,
     kind: Kind,
     token: Token,
-) -> Answer<S, V>
+) -> Result<Answer<S, V>, Refusal>
     requires client { message.client < m }
     requires server { message.server < Q.size system.now }
     requires named { kind_of message.kind ≡ Some kind }
     requires fits { fits network.old (length memory.old.messages.now) ≡ true }
     requires enough { enough_for (Q.size system.now) m network.old.capacity network.old.len (sizes_of (contents memory.old)) ≡ true }
     ensures loans { SameLoans memory.old memory.new }
-    ensures handed { HandedByKind (setting_of Q.QuorumSystem S.Timestamp V.Value system.now m network.old.capacity 4294967295) network.old faulty (contents memory.old) message kind result network.new (contents memory.new) }
+    ensures handed { HandedByKind (setting_of Q.QuorumSystem S.Timestamp V.Value system.now m network.old.capacity 4294967295) network.old faulty (contents memory.old) message kind (answer_of result) network.new (contents memory.new) }
 {
     if is_from_server(kind) {
         return hand_to_client(
@@ -95,11 +93,11 @@ fn hand_over<Q: QuorumSystem, S: Timestamp, V: Value>(
     memory: &mut Memory<'_, S, V>,
     message: Message<S, V>,
     token: Token,
-) -> Answer<S, V>
+) -> Result<Answer<S, V>, Refusal>
     requires fits { fits network.old (length memory.old.messages.now) ≡ true }
     requires enough { enough_for (Q.size system.now) m network.old.capacity network.old.len (sizes_of (contents memory.old)) ≡ true }
     ensures loans { SameLoans memory.old memory.new }
-    ensures handed { HandedOver (setting_of Q.QuorumSystem S.Timestamp V.Value system.now m network.old.capacity 4294967295) network.old faulty (contents memory.old) message result network.new (contents memory.new) }
+    ensures handed { HandedOver (setting_of Q.QuorumSystem S.Timestamp V.Value system.now m network.old.capacity 4294967295) network.old faulty (contents memory.old) message (answer_of result) network.new (contents memory.new) }
 {
     let n = system.servers();
     match kind_named(&message, n, m) {
@@ -113,6 +111,7 @@ fn hand_over<Q: QuorumSystem, S: Timestamp, V: Value>(
 
 // Delivers the message at a place of the queue: it is taken out, handed to its server or its client, and
 // followed by what they send. A refusal leaves all as it was.
+// Kept: the parts of a register one by one, since its record and the other calls lie in the crate above.
 pub fn deliver<Q: QuorumSystem, S: Timestamp, V: Value>(
     system: &Q,
     m: usize,
@@ -125,9 +124,24 @@ pub fn deliver<Q: QuorumSystem, S: Timestamp, V: Value>(
     ensures loans { SameLoans memory.old memory.new }
     ensures delivered { Delivery (setting_of Q.QuorumSystem S.Timestamp V.Value system.now m capacity 4294967295) len.old faulty (contents memory.old) place result len.new (contents memory.new) }
 {
+    Answer::from(try_deliver(system, m, capacity, faulty, len, memory, place))
+}
+
+fn try_deliver<Q: QuorumSystem, S: Timestamp, V: Value>(
+    system: &Q,
+    m: usize,
+    capacity: usize,
+    faulty: ServerSet,
+    len: &mut usize,
+    memory: &mut Memory<'_, S, V>,
+    place: usize,
+) -> Result<Answer<S, V>, Refusal>
+    ensures loans { SameLoans memory.old memory.new }
+    ensures delivered { Delivery (setting_of Q.QuorumSystem S.Timestamp V.Value system.now m capacity 4294967295) len.old faulty (contents memory.old) place (answer_of result) len.new (contents memory.new) }
+{
     let n = system.servers();
     if !memory.sizes().suffice(n, m, capacity, *len) {
-        return Answer::Refused(Refusal::Memory);
+        return Err(Refusal::Memory);
     }
     let mut network = Network {
         capacity,
@@ -135,12 +149,8 @@ pub fn deliver<Q: QuorumSystem, S: Timestamp, V: Value>(
         lifted: None,
     };
     let messages = &mut *memory.messages;
-    match network.take(messages, place) {
-        Ok((message, token)) => {
-            let answer = hand_over(system, m, faulty, &mut network, memory, message, token);
-            *len = network.len;
-            answer
-        }
-        Err(refusal) => Answer::Refused(refusal),
-    }
+    let (message, token) = network.take(messages, place)?;
+    let handed = hand_over(system, m, faulty, &mut network, memory, message, token);
+    *len = network.len;
+    handed
 }

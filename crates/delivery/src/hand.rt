@@ -1,5 +1,6 @@
 // A lifted message at its server or its client: it is settled and followed by what they send, or put back.
 ghost use Rattle.std.specs.Prelude.{◌≡◌, ℕ, ◌+◌, ◌-◌, ◌*◌, ◌<◌, ◌≤◌, true, length, Some};
+ghost use Rattle.calls.specs.Answers.{answer_of};
 ghost use Rattle.calls.specs.declared.Answer.TheVariants.{Refused};
 ghost use Rattle.network.specs.Queues.{fits, restored};
 ghost use Rattle.client.specs.Showing.{kinds_of, messages_of};
@@ -32,12 +33,12 @@ pub(crate) fn refuse<S: Copy, V: Copy>(
     messages: &[Message<S, V>],
     token: Token,
     refusal: Refusal,
-) -> Answer<S, V>
-    ensures answer { result ≡ Refused refusal }
+) -> Result<Answer<S, V>, Refusal>
+    ensures answer { answer_of result ≡ Refused refusal }
     ensures network { network.new ≡ restored network.old (length messages.now) }
 {
     network.put_back(messages, token);
-    Answer::Refused(refusal)
+    Err(refusal)
 }
 
 // Settles the lifted message, and sends what follows on it.
@@ -92,13 +93,13 @@ pub(crate) fn hand_to_server<S: Timestamp, V: Value>(
     message: Message<S, V>,
     token: Token,
     faulty: bool,
-) -> Answer<S, V>
+) -> Result<Answer<S, V>, Refusal>
     requires within { message.server < length servers.old }
     requires row { message.server * clients + clients ≤ length listeners.old }
     requires few { clients ≤ 64 }
     requires client { message.client < clients }
     requires fits { fits network.old (length messages.old) ≡ true }
-    ensures { (n place : ℕ) → message.server < n → network.old.lifted ≡ Some place → ToServer S.above S.lowest V.initial_value n clients faulty servers.old listeners.old network.old messages.old message place result servers.new listeners.new network.new messages.new }
+    ensures { (n place : ℕ) → message.server < n → network.old.lifted ≡ Some place → ToServer S.above S.lowest V.initial_value n clients faulty servers.old listeners.old network.old messages.old message place (answer_of result) servers.new listeners.new network.new messages.new }
 {
     let sending = count_replies(servers, listeners, clients, message, faulty);
     let room = room_without(*network);
@@ -108,7 +109,7 @@ pub(crate) fn hand_to_server<S: Timestamp, V: Value>(
     settle_and_serve(
         servers, listeners, network, messages, clients, message, token, faulty,
     );
-    Answer::Taken
+    Ok(Answer::Taken)
 }
 
 // Hands a lifted message to its client, where there is room for what the client sends.
@@ -121,25 +122,25 @@ pub(crate) fn hand_to_client<Q: QuorumSystem, S: Timestamp, V: Value>(
     message: Message<S, V>,
     kind: Kind,
     token: Token,
-) -> Answer<S, V>
+) -> Result<Answer<S, V>, Refusal>
     requires client { message.client < length clients.old }
     requires server { message.server < Q.size system.now }
     requires part { message.client * (Q.size system.now * (Q.size system.now + 1)) + Q.size system.now * (Q.size system.now + 1) ≤ length reports.old }
     requires fits { fits network.old (length messages.old) ≡ true }
-    ensures { (m place : ℕ) → message.client < m → network.old.lifted ≡ Some place → ToClient (kinds_of Q.QuorumSystem S.Timestamp V.Value system.now) m clients.old reports.old network.old messages.old message kind place result clients.new reports.new network.new messages.new }
+    ensures { (m place : ℕ) → message.client < m → network.old.lifted ≡ Some place → ToClient (kinds_of Q.QuorumSystem S.Timestamp V.Value system.now) m clients.old reports.old network.old messages.old message kind place (answer_of result) clients.new reports.new network.new messages.new }
 {
     let room = room_without(*network);
     match attend(system, clients, reports, message, kind, room) {
-        Ok(given) => {
+        Ok((answer, broadcast)) => {
             settle_and_send(
                 network,
                 messages,
                 token,
-                given.1,
+                broadcast,
                 system.servers(),
                 message.client,
             );
-            given.0
+            Ok(answer)
         }
         Err(refusal) => refuse(network, messages, token, refusal),
     }

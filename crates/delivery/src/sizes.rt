@@ -33,10 +33,7 @@ impl Sizes {
     pub fn suffice(self, n: u8, m: usize, capacity: usize, len: usize) -> bool
         ensures { result ≡ enough_for n m capacity len self }
     {
-        if !within_limits(m, capacity, len, self.messages) {
-            return false;
-        }
-        self.hold(n, m)
+        within_limits(m, capacity, len, self.messages) && self.hold(n, m)
     }
 }
 

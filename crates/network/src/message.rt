@@ -70,12 +70,12 @@ impl fmt::Display for UnknownKind {
 
 impl Error for UnknownKind {}
 
-// A message names a client and a server, whichever way it goes. Its kind is a byte, since a faulty
-// server may send any; S is the kind of timestamps and V that of values.
+// A message names a client and a server, whichever way it goes. S is the kind of timestamps and V that of values.
 #[derive(Clone, Copy, PartialEq, Eq, Debug)]
 pub struct Message<S, V> {
     pub client: u8,
     pub server: u8,
+    // Kept: a byte, since a faulty server may send any.
     pub kind: u8,
     pub number: u32,
     pub timestamp: S,

@@ -11,6 +11,7 @@ pub const MOST_MESSAGES: usize = 4096;
 
 // What goes with the memory of a network: how many messages it may hold, how many it holds, and the
 // place of the one that is lifted. The messages stand in the memory's first places, oldest first.
+// Kept: the memory stands beside it, lent to each call, since the record outlives the loans and owns no heap.
 #[derive(Clone, Copy, PartialEq, Eq, Debug)]
 pub struct Network {
     pub capacity: usize,
@@ -157,7 +158,8 @@ fn below(place: Option<usize>, len: usize) -> bool
     place.is_none_or(|place| place < len)
 }
 
-// The message at a place, read field by field.
+// The message at a place.
+// Kept: a record in lent memory is read field by field.
 fn message_at<S: Copy, V: Copy>(memory: &[Message<S, V>], place: usize) -> Message<S, V>
     requires { place < length memory.now }
     ensures { result ≡ slice_index_or memory.now place result }

@@ -1,7 +1,7 @@
 -- A client begins an operation: the register's reply. Assumes nothing.
 use Rattle.std.proofs.Common.{◌≡◌, ℕ, ◌+◌, ◌-◌, ◌*◌, ◌<◌, ◌≤◌, Bool, true, cond, not, ltb, leb, List, [], ◌∷◌, ◌++◌, length, take, drop, Some, None, Option, sym, refl, ap, ◌∙◌, subst, ap₂, arith}
 use Rattle.std.proofs.lemmas.List.{length-take-le}
-use Rattle.std.proofs.lemmas.Bool.{ltb-false, lt-ltb, le-ltb, and_from, le-leb}
+use Rattle.std.proofs.lemmas.Bool.{ltb-false, lt-ltb, le-ltb}
 use Rattle.calls.specs.Refusals.{first_failed}
 use Rattle.calls.proofs.Checks.{passes_first}
 use Rattle.calls.specs.declared.Answer.{Answer}
@@ -26,7 +26,7 @@ use Rattle.delivery.proofs.Parts.{part_end}
 use Rattle.register.specs.declared.record.Register.{Register}
 use Rattle.register.specs.Calling.{with_queue, network_of, state_of, Replied}
 use Rattle.register.specs.Beginning.{client_refuses, BegunBy, BlankFor}
-use Rattle.register.proofs.Enough.{parts, still_enough}
+use Rattle.register.proofs.Enough.{parts, still_enough, room_left}
 use Rattle.register.proofs.Replies.{accepted, refusing}
 
 -- at most one message goes to each server
@@ -81,13 +81,7 @@ module _ {Q S V : Type 0} (K : Setting S V) (g : Register Q) (x : Lent S V) (muc
         let room : K.rules.n ≤ K.capacity - g.len = ltb-false (K.capacity - g.len) K.rules.n e.0 in
         let few : sending K.rules.n d ≤ K.rules.n = sending_few K.rules.n d in
         let fits : g.len ≤ K.capacity = p.standing in
-        record {
-          sizes =
-              and_from (ltb 0 g.capacity) _ (lt-ltb 0 g.capacity (omega (arith, p.some_capacity)))
-              (and_from (leb g.capacity 4096) _ (le-leb g.capacity 4096 (omega (arith, p.small_capacity))) (le-leb g.capacity (length x.messages) (omega (arith, p.memory))));
-          none_lifted = refl;
-          left = omega (arith, room, few, fits, same);
-        }
+        room_left K g x much same (sending K.rules.n d) (omega (arith, room, few, fits))
 
     -- the operation begins
     pub begun : (k : ℕ) → o.answer ≡ Begun c k → client_refuses K client (K.capacity - g.len) ≡ None

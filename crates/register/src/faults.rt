@@ -1,12 +1,13 @@
 // What a register is told of faulty servers: that one is faulty from now on, and what it sends.
-ghost use Rattle.std.specs.Prelude.{◌≡◌, ◌+◌, ◌<◌, length, slice_set};
+ghost use Rattle.std.specs.Prelude.{◌≡◌, ◌+◌, length, slice_set};
 ghost use Rattle.calls.specs.Answers.{answer_of};
 ghost use Rattle.calls.specs.Refusals.{passed};
 ghost use Rattle.calls.specs.declared.Call.TheVariants.{Turn, Forge};
 ghost use Rattle.network.specs.Kinds.{kind_of};
+ghost use Rattle.network.specs.Queues.{Room};
 ghost use Rattle.protocol.specs.Protocol.{may_be_sent};
 ghost use Rattle.delivery.specs.Memory.{SameLoans, contents};
-ghost use Rattle.register.specs.Calling.{kinds, with_queue, Answers};
+ghost use Rattle.register.specs.Calling.{kinds, network_of, with_queue, Answers};
 ghost use Rattle.register.specs.Faults.{turn_refusal, forge_refusal};
 
 use crate::record::Register;
@@ -85,18 +86,19 @@ impl<Q: QuorumSystem> Register<Q> {
         Ok(())
     }
 
-    // Puts a message behind the others.
+    // Puts a message behind the others, where there is room for it.
     fn post<S: Timestamp, V: Value>(
         &mut self,
         messages: &mut [Message<S, V>],
         message: Message<S, V>,
     )
-        requires { self.old.len < length messages.old }
+        requires { Room (network_of self.old) (length messages.old) 1 }
         ensures record { self.new ≡ with_queue self.old (self.old.len + 1) self.old.faulty }
         ensures memory { messages.new ≡ slice_set messages.old self.old.len message }
     {
-        messages[self.len] = message;
-        self.len += 1;
+        let mut network = self.network();
+        let _ = network.post(messages, message);
+        self.len = network.len;
     }
 
     // A faulty server sends a message, with all fields as given.

@@ -21,7 +21,7 @@ use values::Value;
 
 impl<Q: QuorumSystem> Register<Q> {
     // The network's own record.
-    fn network(&self) -> Network
+    pub(crate) fn network(&self) -> Network
         ensures { result ≡ network_of self.now }
     {
         Network {

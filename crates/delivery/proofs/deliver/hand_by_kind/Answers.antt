@@ -1,4 +1,5 @@
 use Rattle.std.proofs.Common.{◌≡◌, Bool, true, false, sym, refl, subst}
+use Rattle.calls.specs.Answers.{answer_of}
 use Rattle.protocol.specs.Settings.{setting_of}
 use Rattle.protocol.specs.Protocol.{from_server}
 use Rattle.delivery.specs.Memory.{contents, sizes_of}
@@ -27,7 +28,7 @@ returns-then-is_from_server-clause-handed g c place is =
     let comes : from_server c.args.kind ≡ true = sym c.if-is_from_server.ensures in
     client_handed K c.args.faulty c.args.memory.now.servers.now c.args.memory.now.clients.now c.args.memory.now.listeners.now c.args.memory.now.messages.now c.args.memory.now.reports.now net c.args.message c.args.kind place
     c.requires.fits is refl c.requires.enough
-    c.hand_to_client.result c.hand_to_client.new.clients c.hand_to_client.new.reports c.hand_to_client.new.network c.hand_to_client.new.messages
+    (answer_of c.hand_to_client.result) c.hand_to_client.new.clients c.hand_to_client.new.reports c.hand_to_client.new.network c.hand_to_client.new.messages
     comes c.requires.client c.requires.named (c.hand_to_client.ensures c.args.m place c.requires.client is)
 
 pub hand_to_server-requires : goal.hand_to_server-requires
@@ -54,7 +55,7 @@ returns-clause-handed g c place is =
     let message = c.args.message in
     let goes : from_server c.args.kind ≡ false = sym c.if-is_from_server.ensures in
     let P : Bool → Type 0 = λ f. ToServer g.S.Timestamp.above g.S.Timestamp.lowest g.V.Value.initial_value (g.Q.QuorumSystem.size q) c.args.m f ss ls net memory message place
-    c.hand_to_server.result c.hand_to_server.new.servers c.hand_to_server.new.listeners c.hand_to_server.new.network c.hand_to_server.new.messages in
+    (answer_of c.hand_to_server.result) c.hand_to_server.new.servers c.hand_to_server.new.listeners c.hand_to_server.new.network c.hand_to_server.new.messages in
     server_handed K c.args.faulty ss c.args.memory.now.clients.now ls memory c.args.memory.now.reports.now net message c.args.kind place c.requires.fits is refl c.requires.enough
-    c.hand_to_server.result c.hand_to_server.new.servers c.hand_to_server.new.listeners c.hand_to_server.new.network c.hand_to_server.new.messages
+    (answer_of c.hand_to_server.result) c.hand_to_server.new.servers c.hand_to_server.new.listeners c.hand_to_server.new.network c.hand_to_server.new.messages
     goes (subst P c.contains-is_faulty.ensures (c.hand_to_server.ensures (g.Q.QuorumSystem.size q) place c.requires.server is))

@@ -1,5 +1,6 @@
 use Rattle.std.proofs.Common.{◌≡◌, take, Some, None, sym, refl, ap, ◌∙◌, subst}
 use Rattle.std.specs.List.{remove}
+use Rattle.calls.specs.Answers.{answer_of}
 use Rattle.calls.specs.declared.Refusal.TheVariants.{Memory}
 use Rattle.network.specs.Kinds.{kind_of}
 use Rattle.protocol.specs.Settings.{setting_of}
@@ -28,7 +29,7 @@ returns-in-Some-clause-handed g c place is =
     let x = contents c.args.memory.now in
     let x' = contents c.hand_by_kind.new.memory in
     let known : kind_named n c.args.m message ≡ Some c.in-Some.kind = ap (λ k. kind_named k c.args.m message) (sym c.servers-n.ensures) ∙ sym c.in-Some.ensures in
-    let P : Reply g.row.S.Denot g.row.V.Denot → Type 0 = λ y. Handed K net.len c.args.faulty x message y c.hand_by_kind.result c.hand_by_kind.new.network.len x' in
+    let P : Reply g.row.S.Denot g.row.V.Denot → Type 0 = λ y. Handed K net.len c.args.faulty x message y (answer_of c.hand_by_kind.result) c.hand_by_kind.new.network.len x' in
     subst P (sym (taken_named K (state_in K net.len c.args.faulty x) (remove (take net.len c.args.memory.now.messages.now) place) message c.in-Some.kind known))
     (c.hand_by_kind.ensures.handed place is)
 
@@ -44,5 +45,5 @@ returns-in-None-clause-handed g c place is =
     let rest = remove (take net.len c.args.memory.now.messages.now) place in
     let known : kind_named n c.args.m message ≡ None = ap (λ k. kind_named k c.args.m message) (sym c.servers-n.ensures) ∙ sym c.in-None.ensures in
     let back = c.refuse.ensures.network ∙ restored_as net c.args.memory.now.messages.now place c.requires.fits is in
-    kept_handed K net.len c.refuse.new.network.len c.args.faulty x x message (taken K σ rest message (kind_of message.kind)) c.refuse.result Memory
+    kept_handed K net.len c.refuse.new.network.len c.args.faulty x x message (taken K σ rest message (kind_of message.kind)) (answer_of c.refuse.result) Memory
     (taken_unnamed K σ rest message known) c.refuse.ensures.answer (ap (λ w. w.len) back) refl c.requires.enough

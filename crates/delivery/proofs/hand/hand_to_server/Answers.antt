@@ -1,4 +1,5 @@
 use Rattle.std.proofs.Common.{◌≡◌, ◌<◌, ◌≤◌, arith}
+use Rattle.calls.specs.Answers.{answer_of}
 use Rattle.delivery.specs.Handing.{room_without}
 use Rattle.delivery.proofs.Settling.{server_full, server_fits}
 use Rattle.delivery.proofs.hand.hand_to_server.Goals as goal
@@ -9,7 +10,7 @@ returns-then-sending-room g c n place within is =
     let room : c.room_without-room.result ≡ room_without net = c.room_without-room.ensures in
     let many : room_without net < c.count_replies-sending.result = omega (arith, room, c.if-sending-room.true) in
     server_full g.S.Timestamp.above g.S.Timestamp.lowest g.V.Value.initial_value n c.args.clients c.args.faulty c.args.servers.now c.args.listeners.now net c.args.messages.now c.args.message c.requires.fits
-    place c.count_replies-sending.result c.refuse.result c.refuse.new.network is (c.count_replies-sending.ensures n within) many c.refuse.ensures.answer c.refuse.ensures.network
+    place c.count_replies-sending.result (answer_of c.refuse.result) c.refuse.new.network is (c.count_replies-sending.ensures n within) many c.refuse.ensures.answer c.refuse.ensures.network
 
 pub returns : goal.returns
 returns g c n place within is =

@@ -11,7 +11,7 @@ returns-in-Some g c place is =
     let n = c.args.n in
     let client = c.args.client in
     let P : Option (Broadcast g.row.S.Denot g.row.V.Denot) → Type 0 = λ x. length (messages_of n client x) ≤ room_without c.args.network.now
-        → Replaced c.args.network.now c.args.messages.now place (messages_of n client x) c.send.new.network c.send.new.memory in
+    → Replaced c.args.network.now c.args.messages.now place (messages_of n client x) c.send.new.network c.send.new.memory in
     subst P (sym c.in-Some.is)
     (sent_on n client (Some c.in-Some.broadcast) c.args.network.now c.settle.new.self c.send.new.network c.args.messages.now c.settle.new.memory c.send.new.memory
     place c.requires.fits c.settle.ensures.network c.settle.ensures.memory
@@ -22,7 +22,7 @@ returns-in_default g c place is =
     let n = c.args.n in
     let client = c.args.client in
     let P : Option (Broadcast g.row.S.Denot g.row.V.Denot) → Type 0 = λ x. length (messages_of n client x) ≤ room_without c.args.network.now
-        → Replaced c.args.network.now c.args.messages.now place (messages_of n client x) c.settle.new.self c.settle.new.memory in
+    → Replaced c.args.network.now c.args.messages.now place (messages_of n client x) c.settle.new.self c.settle.new.memory in
     subst P (sym c.in_default.is)
     (sent_on n client None c.args.network.now c.settle.new.self c.settle.new.self c.args.messages.now c.settle.new.memory c.settle.new.memory
     place c.requires.fits c.settle.ensures.network c.settle.ensures.memory (λ room. sent_none c.settle.new.self c.settle.new.memory) is)

@@ -1,11 +1,11 @@
-use Rattle.std.proofs.Common.{sym, ◌∙◌, subst, arith}
+use Rattle.std.proofs.Common.{sym, refl, ◌∙◌, subst, arith}
 use Rattle.calls.specs.declared.Answer.{Answer}
 use Rattle.calls.specs.declared.Call.TheVariants.{Forge}
 use Rattle.calls.proofs.Checks.{passed_ok, passed_err, one_passes}
 use Rattle.calls.proofs.Refusing.{refused_as}
 use Rattle.delivery.specs.Memory.{contents}
 use Rattle.register.specs.Calling.{kinds, Answers}
-use Rattle.register.proofs.Enough.{parts}
+use Rattle.register.proofs.Enough.{room_left}
 use Rattle.register.proofs.Faulty.{forge_refused, forge_accepted, forge_room}
 use Rattle.register.proofs.record.Register.try_forge.Goals as goal
 
@@ -28,8 +28,7 @@ post-requires g c =
     let x = contents c.args.memory.now in
     let much = one_passes _ _ _ (sym c.check_memory.ensures ∙ c.in_ok-check_memory.was) in
     let room = forge_room K h x much c.args.message (passed_ok _ _ (sym c.check_forging.ensures ∙ c.in_ok-check_forging.was)) in
-    let p = parts K h.len x much in
-    omega (arith, p.memory, room)
+    room_left K h x much refl 1 (omega (arith, room))
 
 pub returns-clause-answers : goal.returns-clause-answers
 returns-clause-answers g c =

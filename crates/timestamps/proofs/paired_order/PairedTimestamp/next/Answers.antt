@@ -1,4 +1,4 @@
-use Rattle.std.proofs.Common.{rules, ◌≡◌, Option, sym, subst}
+use Rattle.std.proofs.Common.{rules, ◌≡◌}
 use Rattle.timestamps.specs.Laws.{higher}
 use Rattle.timestamps.specs.PairedOrder.{paired_above}
 use Rattle.timestamps.specs.PairedLaws.{made_next}
