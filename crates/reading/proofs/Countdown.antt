@@ -11,9 +11,9 @@ use Rattle.std.proofs.iter.runs.Sources.{nat_range_steps_back}
 use Rattle.std.proofs.lemmas.Iterator.{YieldsList}
 use Rattle.std.specs.declared.ops.Range.{Range}
 use Rattle.std.specs.declared.iter.Rev.{Rev}
-use Rattle.reading.specs.Readings.{Reading, Rules}
+use Rattle.reading.specs.Readings.{Reading, Rules, backers, value_of, backed}
 use Rattle.reading.specs.Reports.{Grid, timestamp_of, content, watches, kept, slots}
-use Rattle.reading.specs.Deciding.{bettered}
+use Rattle.reading.specs.Deciding.{passes, bettered}
 use Rattle.reading.proofs.Decides.{decide_from, decide_push}
 
 -- the n numbers from a on, the last first
@@ -72,6 +72,25 @@ module _ {S V : Type 0} (above : S → S → Bool) (g : Grid S V) (b : ℕ) (t :
             ∙ ap (λ o. option_and_then (λ j. content (g b j)) o) (sym found ∙ option_map_id r)
         | inr l ↦ cond-false (ltb b n) (kept above g b t n) None (le-ltb b n l) ∙ sym (nothing r (past l))
       ]
+
+-- ---- the last server that shares its evidence with a quorum
+
+chosen : {V : Type 0} (test : V → Bool) (o rest : Option V) → value_of test o rest ≡ cond (passes test o) o rest
+chosen test None rest = refl
+chosen test (Some v) rest = refl
+
+module _ {S V : Type 0} (K : Rules S V) (r : Reading S V) (t : S) where
+  abbrev pub shares : ℕ → Bool
+  shares b = passes (λ v. K.quorum (backers K.same r t v)) (r.evidence b t)
+
+  pub backed_last : (n : ℕ) → backed K r t n ≡ option_and_then (λ b. r.evidence b t) (find shares (countdown 0 n))
+  backed_last zero = refl
+  backed_last (suc n) =
+      let all : n ≡ 0 + n = omega arith in
+      let rest = find shares (countdown 0 n) in
+      chosen (λ v. K.quorum (backers K.same r t v)) (r.evidence n t) (backed K r t n)
+      ∙ ap (λ k. cond (shares n) (r.evidence n t) k) (backed_last n) ∙ picked (shares n) (λ b. r.evidence b t) n rest
+      ∙ ap (λ i. option_and_then (λ b. r.evidence b t) (cond (shares i) (Some i) rest)) all
 
 -- ---- a decision slot by slot, the last first
 module _ {S V : Type 0} (K : Rules S V) (r : Reading S V) (g : Grid S V) where

@@ -1,9 +1,9 @@
 // When the read is done: a quorum has the same evidence for a watched timestamp.
 ghost use Rattle.std.specs.Prelude.{◌≡◌, ◌<◌, Some};
 ghost use Rattle.quorums.specs.Sets.{members};
-ghost use Rattle.reading.specs.Readings.{rules_for, backers, value_of, better, backed, decide};
+ghost use Rattle.reading.specs.Readings.{rules_for, backers, better, backed, decide};
 ghost use Rattle.reading.specs.Reports.{cell, timestamp_of, known};
-ghost use Rattle.reading.specs.Deciding.{bettered};
+ghost use Rattle.reading.specs.Deciding.{passes, bettered};
 
 use crate::reports::Reports;
 use quorums::QuorumSystem;
@@ -42,19 +42,14 @@ impl<S: Timestamp, V: Value> Reports<'_, S, V> {
         system.is_quorum(self.backers(timestamp, value))
     }
 
-    // The server's evidence for the timestamp, if a quorum has the same; else the rest.
-    fn weighed<Q: QuorumSystem>(
-        &self,
-        system: &Q,
-        timestamp: S,
-        server: u8,
-        rest: Option<V>,
-    ) -> Option<V>
-        ensures { result ≡ value_of (λ v. Q.quorum system.now (backers V.same (known S.Timestamp V.Value self.now) timestamp v)) ((known S.Timestamp V.Value self.now).evidence server timestamp) rest }
+    // Whether a quorum has the same evidence for the timestamp as the server.
+    fn is_shared<Q: QuorumSystem>(&self, system: &Q, timestamp: S, server: u8) -> bool
+        ensures { result ≡ passes (λ v. Q.quorum system.now (backers V.same (known S.Timestamp V.Value self.now) timestamp v)) ((known S.Timestamp V.Value self.now).evidence server timestamp) }
     {
+        // Kept: of is_some_and's closure over is_backed a proof learns nothing here.
         match self.evidence_of(server, timestamp) {
-            Some(value) if self.is_backed(system, timestamp, value) => Some(value),
-            _ => rest,
+            Some(value) => self.is_backed(system, timestamp, value),
+            None => false,
         }
     }
 
@@ -62,11 +57,10 @@ impl<S: Timestamp, V: Value> Reports<'_, S, V> {
     fn backed<Q: QuorumSystem>(&self, system: &Q, timestamp: S) -> Option<V>
         ensures { result ≡ backed (rules_for Q.QuorumSystem S.Timestamp V.Value self.now.n system.now) (known S.Timestamp V.Value self.now) timestamp self.now.n }
     {
-        let mut found = None;
-        for server in 0..self.n {
-            found = self.weighed(system, timestamp, server, found);
-        }
-        found
+        let server = (0..self.n)
+            .rev()
+            .find(|server| self.is_shared(system, timestamp, *server))?;
+        self.evidence_of(server, timestamp)
     }
 
     // The slot's timestamp with the value that a quorum has for it, or the rest: of two, the one with the higher timestamp.

@@ -1,12 +1,33 @@
-use Rattle.std.proofs.Common.{sym, ap, ◌∙◌, add-one}
-use Rattle.reading.specs.Readings.{backed, backers, value_of, rules_for}
+use Rattle.std.proofs.Common.{◌≡◌, rules, ◌∙◌, sym, ap, None, Some}
+use Rattle.std.specs.List.{find}
+use Rattle.std.specs.Option.{option_map, option_and_then}
+use Rattle.std.proofs.lemmas.Iterator.Search.{find_from_yields_List}
+use Rattle.std.proofs.lemmas.Iterator.Adapters.{option_map_id}
+use borrow.Author.Tests.{tests}
+use Rattle.reading.specs.Readings.{rules_for}
 use Rattle.reading.specs.Reports.{known}
+use Rattle.reading.proofs.Countdown.{countdown, countdown_yields, shares, backed_last}
 use Rattle.reading.proofs.reports.Reports.backed.Goals as goal
 
-pub loop-server-preserved : goal.loop-server-preserved
-loop-server-preserved g c =
-    let s = c.args.timestamp in
-    let b = c.loop-server.server in
+pub returns-in_err-server : goal.returns-in_err-server
+returns-in_err-server g c =
+    let n = c.args.self.now.n in
+    let t = c.args.timestamp in
     let r = known g.S.Timestamp g.V.Value c.args.self.now in
-    let k = rules_for g.Q.QuorumSystem g.S.Timestamp g.V.Value c.args.self.now.n c.args.system.now in
-    c.weighed-found.ensures ∙ ap (λ o. value_of (λ v. k.quorum (backers k.same r s v)) (r.evidence b s) o) c.loop-server.invariant ∙ ap (λ i. backed k r s i) (sym (add-one b))
+    let k = rules_for g.Q.QuorumSystem g.S.Timestamp g.V.Value n c.args.system.now in
+    let found : option_map (λ x. x) c.find.result ≡ find (shares k r t) (countdown 0 n) =
+    find_from_yields_List (shares k r t) _ _ c.find.result c.find.ensures.ran (countdown_yields n c.rev.ensures.source) (λ x b q e. search (rules, tests)) in
+    let none : c.find.result ≡ None = search rules in
+    let is : c.from_residual.result ≡ None = search rules in
+    is ∙ sym (backed_last k r t n ∙ ap (option_and_then (λ b. r.evidence b t)) (sym found ∙ option_map_id c.find.result ∙ none))
+
+pub returns : goal.returns
+returns g c =
+    let n = c.args.self.now.n in
+    let t = c.args.timestamp in
+    let r = known g.S.Timestamp g.V.Value c.args.self.now in
+    let k = rules_for g.Q.QuorumSystem g.S.Timestamp g.V.Value n c.args.system.now in
+    let found : option_map (λ x. x) c.find.result ≡ find (shares k r t) (countdown 0 n) =
+    find_from_yields_List (shares k r t) _ _ c.find.result c.find.ensures.ran (countdown_yields n c.rev.ensures.source) (λ x b q e. search (rules, tests)) in
+    let some : c.find.result ≡ Some c.in_ok-server.server = search rules in
+    c.evidence_of.ensures ∙ sym (backed_last k r t n ∙ ap (option_and_then (λ b. r.evidence b t)) (sym found ∙ option_map_id c.find.result ∙ some))
