@@ -1,6 +1,7 @@
 -- The slots after a server has entered.
 use Rattle.std.proofs.Common.{◌≡◌, ℕ, zero, suc, ◌+◌, ◌*◌, ◌/◌, ◌%◌, ◌<◌, ◌≤◌, Bool, true, false, cond, ◌&&◌, ◌||◌, eqb, ltb, leb, List, [], ◌∷◌, ◌++◌, Some, None, Option, sym, refl, ap, ◌∙◌, ap₂, inl, inr, mod-lt, arith}
 use Rattle.std.proofs.lemmas.Nat.{mul-add-lt, div-mul-add, mod-mul-add, div_below, div-add-mod'}
+use Rattle.std.proofs.lemmas.Bool.Decides.{nat_tests}
 use Rattle.std.proofs.lemmas.Bool.{both_ways, cases_lt, cases_order, le-leb, lt-leb, eq-eqb, eqb-true, cases_Bool, and_parts, cond-true, cond-false, lt-ltb, le-ltb, ltb-true, ltb-false, and_left, and_right, and_from, or_right}
 use Rattle.std.specs.Prelude.{is_some}
 use Rattle.std.specs.Option.{option_map, unwrap_or}
@@ -18,12 +19,7 @@ and_true false = refl
 
 -- past another place than i
 beyond : (i m : ℕ) → (m ≡ i → ⊥) → leb (i + 1) m ≡ leb i m
-beyond i m ne =
-    elim (cases_lt i m) [
-      | inl l ↦ le-leb (i + 1) m (omega arith) ∙ sym (le-leb i m (omega arith))
-      | inr l ↦ let s : m < i = elim (cases_order m i) [ inl e ↦ absurd (ne e) | inr (inl a) ↦ a | inr (inr b) ↦ absurd (omega arith) ] in
-          lt-leb (i + 1) m (omega arith) ∙ sym (lt-leb i m (omega arith))
-    ]
+beyond i m ne = grind (arith, nat_tests)
 
 pub positive : (n i : ℕ) → i < n * n → 0 < n
 positive zero i l = absurd (omega arith)
@@ -69,14 +65,13 @@ renew_more f g h n i x k l e =
 
 pub renew_none : {R : Type 0} (f g : ℕ → ℕ → R) (n i x k : ℕ) → x < n → n * n ≤ i → g x k ≡ renew_from f n i g x k
 renew_none f g n i x k hx l =
-    elim (cases_Bool (ltb k n)) [
-      | inl in_row ↦ sym (cond-false (ltb k n && leb i (x * n + k)) (f x k) (g x k)
-          (and_right (ltb k n) (leb i (x * n + k)) (lt-leb i (x * n + k) (omega (arith, mul-add-lt x n k n hx (ltb-true k n in_row))))))
-      | inr out ↦ sym (cond-false (ltb k n && leb i (x * n + k)) (f x k) (g x k) (and_left (ltb k n) (leb i (x * n + k)) out))
+    elim (cases_lt k n) [
+      | inl k_lt ↦ let row = mul-add-lt x n k n hx k_lt in grind (arith, nat_tests)
+      | inr k_le ↦ grind (arith, nat_tests)
     ]
 
 pub renew_all : {R : Type 0} (f g : ℕ → ℕ → R) (n x k : ℕ) → renew_from f n 0 g x k ≡ cond (ltb k n) (f x k) (g x k)
-renew_all f g n x k = ap (λ t. cond t (f x k) (g x k)) (ap (λ t. ltb k n && t) (le-leb 0 (x * n + k) (omega arith)) ∙ and_true (ltb k n))
+renew_all f g n x k = grind (arith, nat_tests)
 
 -- ---- all entries
 

@@ -1,5 +1,6 @@
 -- What memory shows after it is written.
 use Rattle.std.proofs.Common.{◌≡◌, ℕ, zero, suc, ◌<◌, ◌≤◌, Bool, true, cond, ◌&&◌, eqb, ltb, ◌++◌, None, sym, refl, ap, ◌∙◌, ap₂, inl, inr, arith}
+use Rattle.std.proofs.lemmas.Bool.Decides.{nat_tests}
 use Rattle.std.proofs.lemmas.Bool.{cases_Bool, eqb-true, eq-eqb, ne_eqb, cond-true, cond-false, lt-ltb, le-ltb, ltb-true, and_left, and_right, and_from}
 use Rattle.std.specs.Prelude.{is_some, Some}
 use Rattle.std.specs.Option.{unwrap_or}
@@ -13,15 +14,11 @@ same_reading r q e s v w x = λ i. record { entered = λ b. e b i; latest = λ b
 
 -- what agrees below n agrees
 pub guard : {A : Type 0} (b n : ℕ) (x y z : A) → (b < n → x ≡ y) → cond (ltb b n) x z ≡ cond (ltb b n) y z
-guard b n x y z h =
-    elim (cases_Bool (ltb b n)) [
-      | inl e ↦ ap (λ w. cond (ltb b n) w z) (h (ltb-true b n e))
-      | inr e ↦ cond-false (ltb b n) x z e ∙ sym (cond-false (ltb b n) y z e)
-    ]
+guard b n x y z h = grind (arith, nat_tests, h)
 
 -- from n on it is the default
 pub gone : {A : Type 0} (b n : ℕ) (x z : A) → n ≤ b → cond (ltb b n) x z ≡ z
-gone b n x z l = cond-false (ltb b n) x z (le-ltb b n l)
+gone b n x z l = grind (arith, nat_tests)
 
 -- memory that is the same in range shows the same
 pub slots_same : {S V : Type 0} (g h : Grid S V) (n : ℕ) → ((j : ℕ) → j < n → timestamp_of (g j j) ≡ timestamp_of (h j j)) → slots g n ≡ slots h n
@@ -49,20 +46,10 @@ shown_same above d n g h e =
 
 module _ {S V : Type 0} (above : S → S → Bool) (d : S × V) (n : ℕ) (g : Grid S V) (b : ℕ) (hb : b < n) where
   late_put : {A : Type 0} (F : Report S V → A) (x : Report S V) (c : ℕ) → F (late n (put_at g b n x) c) ≡ cond (eqb b c) (F x) (F (late n g c))
-  late_put F x c =
-      elim (cases_Bool (eqb b c)) [
-        | inl e ↦
-            let bc : b ≡ c = eqb-true b c e in
-            ap F (cond-true (ltb c n) (put_at g b n x c n) None (lt-ltb c n (omega arith))
-            ∙ cond-true (eqb b c && eqb n n) x (g c n) (and_from (eqb b c) (eqb n n) e (eq-eqb n n refl)))
-            ∙ sym (cond-true (eqb b c) (F x) (F (late n g c)) e)
-        | inr e ↦
-            ap (λ r. F (cond (ltb c n) r None)) (cond-false (eqb b c && eqb n n) x (g c n) (and_left (eqb b c) (eqb n n) e))
-            ∙ sym (cond-false (eqb b c) (F x) (F (late n g c)) e)
-      ]
+  late_put F x c = grind (arith, nat_tests)
 
   put_other : (x : Report S V) (c j : ℕ) → j < n → put_at g b n x c j ≡ g c j
-  put_other x c j l = cond-false (eqb b c && eqb n j) x (g c j) (and_right (eqb b c) (eqb n j) (ne_eqb n j (λ e. omega arith)))
+  put_other x c j l = grind (arith, nat_tests)
 
   pub raise_yes : (s : S) (v : V) → newer above (shown above d n g) b s ≡ true → shown above d n (put_at g b n (Some (s, v))) ≡ raised above (shown above d n g) b s v
   raise_yes s v new =
