@@ -2,6 +2,7 @@
 use Rattle.std.proofs.Common.{◌≡◌, ℕ, ◌+◌, ◌*◌, ◌/◌, ◌%◌, ◌<◌, ◌≤◌, Bool, ◌&&◌, eqb, ltb, List, None, Option, length, get_or, set, sym, ap, ◌∙◌, inl, inr, mul_comm, arith}
 use Rattle.std.proofs.lemmas.Nat.{mul-le, mul-add-lt, div-mul-add, mod-mul-add}
 use Rattle.std.proofs.lemmas.List.{get_or_past, get_or-set_same, get_or-set_other}
+use Rattle.std.proofs.lemmas.Bool.Decides.{nat_tests}
 use Rattle.std.proofs.lemmas.Bool.{cases_lt, lt-ltb, le-ltb, cases_Bool, and_parts, and_cases, eqb-true, eqb-false, cond-true, cond-false}
 use Rattle.reading.specs.declared.reports.Reports.{Reports}
 use Rattle.reading.specs.Reports.{Report, Kept, cell, late, put_at, shown, view}
@@ -27,19 +28,8 @@ pub cell_set : {R : Type 0} (n : ℕ) (p : List (Option R)) (b k : ℕ) (x : Opt
     → (c j : ℕ) → j ≤ n → cell n (set p (b * (n + 1) + k) x) c j ≡ put_at (cell n p) b k x c j
 cell_set n p b k x room hb hk c j hj =
     elim (cases_Bool (eqb b c && eqb k j)) [
-      | inl e ↦
-          let parts = and_parts (eqb b c) (eqb k j) e in
-          let eb : b ≡ c = eqb-true b c parts.0 in
-          let ek : k ≡ j = eqb-true k j parts.1 in
-          let same : get_or (set p (b * (n + 1) + k) x) (b * (n + 1) + k) None ≡ x = get_or-set_same p (b * (n + 1) + k) x None (inside n p b k room hb hk) in
-          ap (λ i. get_or (set p (b * (n + 1) + k) x) i None) (sym (ap (λ i. i * (n + 1) + k) eb ∙ ap (λ i. c * (n + 1) + i) ek)) ∙ same ∙ sym (cond-true (eqb b c && eqb k j) x (cell n p c j) e)
-      | inr e ↦
-          get_or-set_other p (b * (n + 1) + k) (c * (n + 1) + j) x None
-          (λ q. elim (and_cases (eqb b c) (eqb k j) e) [
-            | inl f ↦ eqb-false b c f (apart_row n b k c j hk hj (sym q))
-            | inr f ↦ eqb-false k j f (apart_place n b k c j hk hj (sym q))
-          ])
-          ∙ sym (cond-false (eqb b c && eqb k j) x (cell n p c j) e)
+      | inl e ↦ let same = get_or-set_same p (b * (n + 1) + k) x None (inside n p b k room hb hk) in grind (arith, nat_tests, same)
+      | inr e ↦ let row = apart_row n b k c j hk hj in let place = apart_place n b k c j hk hj in grind (arith, nat_tests, row, place, get_or-set_other p (b * (n + 1) + k) (c * (n + 1) + j) x None)
     ]
 
 -- of servers from n on nothing is reported

@@ -39,28 +39,14 @@ apart n i x k hk l ne e =
 pub renew_more : {R : Type 0} (f g h : ℕ → ℕ → R) (n i x k : ℕ) → i < n * n → h x k ≡ renew_from f n (i + 1) g x k
     → put_at h (i / n) (i % n) (f (i / n) (i % n)) x k ≡ renew_from f n i g x k
 renew_more f g h n i x k l e =
-    let c = i / n in
-    let j = i % n in
-    let y = renew_from f n (i + 1) g x k in
-    ap (λ z. cond (eqb c x && eqb j k) (f c j) z) e
-    ∙ elim (cases_Bool (eqb c x && eqb j k)) [
-      | inl q ↦
-          let p = and_parts (eqb c x) (eqb j k) q in
-          let cx : c ≡ x = eqb-true c x p.0 in
-          let jk : j ≡ k = eqb-true j k p.1 in
-          let in_row : k < n = omega (arith, place_of n i l, jk) in
-          let at : i ≡ x * n + k = sym (div-add-mod' i n) ∙ ap₂ (λ a b. a * n + b) cx jk in
-          cond-true (eqb c x && eqb j k) (f c j) y q ∙ ap₂ f cx jk
-          ∙ sym (cond-true (ltb k n && leb i (x * n + k)) (f x k) (g x k) (and_from (ltb k n) (leb i (x * n + k)) (lt-ltb k n in_row) (le-leb i (x * n + k) (omega arith))))
-      | inr q ↦
-          cond-false (eqb c x && eqb j k) (f c j) y q
-          ∙ elim (cases_Bool (ltb k n)) [
-            | inl in_row ↦
-                let other : x * n + k ≡ i → ⊥ = apart n i x k (ltb-true k n in_row) l (λ a b. both_ways (eqb c x && eqb j k) q (and_from (eqb c x) (eqb j k) (eq-eqb c x a) (eq-eqb j k b))) in
-                ap (λ t. cond (ltb k n && t) (f x k) (g x k)) (beyond i (x * n + k) other)
-            | inr out ↦ cond-false (ltb k n && leb (i + 1) (x * n + k)) (f x k) (g x k) (and_left (ltb k n) (leb (i + 1) (x * n + k)) out)
-                ∙ sym (cond-false (ltb k n && leb i (x * n + k)) (f x k) (g x k) (and_left (ltb k n) (leb i (x * n + k)) out))
-          ]
+    let place = place_of n i l in
+    let at = div-add-mod' i n in
+    elim (cases_lt k n) [
+      | inl k_lt ↦
+          let row = div-mul-add x n k k_lt in
+          let column = mod-mul-add x n k k_lt in
+          grind (arith, nat_tests)
+      | inr k_le ↦ grind (arith, nat_tests)
     ]
 
 pub renew_none : {R : Type 0} (f g : ℕ → ℕ → R) (n i x k : ℕ) → x < n → n * n ≤ i → g x k ≡ renew_from f n i g x k

@@ -129,7 +129,7 @@ module _ {S V : Type 0} (above : S → S → Bool) {owner : S → ℕ} {low : S}
       ]
 
   late_same : (c : ℕ) → h c n ≡ g c n
-  late_same c = other c n (and_right (eqb b c) (ltb n n && watches above g s n) (and_left (ltb n n) (watches above g s n) (le-ltb n n (omega arith))))
+  late_same c = grind (arith, nat_tests)
 
   pub note_all : shown above d n h ≡ noted above (shown above d n g) b s v
   note_all =
