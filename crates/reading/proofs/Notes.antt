@@ -86,46 +86,27 @@ module _ {S V : Type 0} (above : S → S → Bool) {owner : S → ℕ} {low : S}
   pushed : (t : S) (i : ℕ) → take_in t (suc i) ≡ (level above s t && (among above s (slots g i) || watches above g s i))
   pushed t i = ap (λ x. level above s t && x) (among_push above s (slots g i) (timestamp_of (g i i)))
 
+  -- a slot that is watched for another timestamp is not watched for this one
+  missed : (t : S) (i : ℕ) → level above s t ≡ false → watches above g t i ≡ true → watches above g s i ≡ false
+  missed t i e f =
+      elim (cases_Bool (watches above g s i)) [
+        | inl q ↦
+            let a = equals_some above ordered s (timestamp_of (g i i)) q in
+            let z = equals_some above ordered t (timestamp_of (g i i)) f in
+            absurd (both_ways (level above s t) e (ap (λ x. equals above s x) (z ∙ sym a) ∙ level_same above ordered s))
+        | inr q ↦ q
+      ]
+
   kept_content : (t : S) (i : ℕ) → i ≤ n → kept above h b t i ≡ cond (take_in t i) (Some v) (kept above g b t i)
   kept_content t zero l = sym (cond-false (level above s t && false) (Some v) None (and_right (level above s t) false refl))
   kept_content t (suc i) l =
       let here : i < n = omega arith in
-      ap (λ x. cond x (content (h b i)) (kept above h b t i)) (watches_same t i)
-      ∙ elim (cases_Bool (level above s t)) [
-        | inl e ↦
-            let st : s ≡ t = level_equal above ordered s t e in
-            let hits : watches above g s i ≡ watches above g t i = ap (λ x. watches above g x i) st in
-            elim (cases_Bool (watches above g t i)) [
-              | inl f ↦
-                  let mine : h b i ≡ Some (s, v) = written b i (and_from (eqb b b) (ltb i n && watches above g s i) (eq-eqb b b refl) (and_from (ltb i n) (watches above g s i) (lt-ltb i n here) (hits ∙ f))) in
-                  cond-true (watches above g t i) (content (h b i)) (kept above h b t i) f ∙ ap content mine
-                  ∙ sym (cond-true (take_in t (suc i)) (Some v) (kept above g b t (suc i)) (pushed t i ∙ grind (arith, nat_tests, hits, e, f)))
-              | inr f ↦
-                  cond-false (watches above g t i) (content (h b i)) (kept above h b t i) f ∙ kept_content t i (omega arith)
-                  ∙ ap (λ x. cond x (Some v) (kept above g b t i)) (sym (pushed t i ∙ grind (arith, nat_tests, hits, e, f)))
-                  ∙ ap (λ x. cond (take_in t (suc i)) (Some v) x) (sym (cond-false (watches above g t i) (content (g b i)) (kept above g b t i) f))
-            ]
-        | inr e ↦
-            let out : (j : ℕ) → take_in t j ≡ false = λ j. and_left (level above s t) (among above s (slots g j)) e in
-            let ih : kept above h b t i ≡ kept above g b t i = kept_content t i (omega arith) ∙ cond-false (take_in t i) (Some v) (kept above g b t i) (out i) in
-            elim (cases_Bool (watches above g t i)) [
-              | inl f ↦
-                  let miss : watches above g s i ≡ false = elim (cases_Bool (watches above g s i)) [
-                    | inl q ↦
-                        let a = equals_some above ordered s (timestamp_of (g i i)) q in
-                        let z = equals_some above ordered t (timestamp_of (g i i)) f in
-                        absurd (both_ways (level above s t) e (ap (λ x. equals above s x) (z ∙ sym a) ∙ level_same above ordered s))
-                    | inr q ↦ q
-                  ] in
-                  cond-true (watches above g t i) (content (h b i)) (kept above h b t i) f
-                  ∙ ap content (other b i (and_right (eqb b b) (ltb i n && watches above g s i) (and_right (ltb i n) (watches above g s i) miss)))
-                  ∙ sym (cond-true (watches above g t i) (content (g b i)) (kept above g b t i) f)
-                  ∙ sym (cond-false (take_in t (suc i)) (Some v) (kept above g b t (suc i)) (out (suc i)))
-              | inr f ↦
-                  cond-false (watches above g t i) (content (h b i)) (kept above h b t i) f ∙ ih
-                  ∙ sym (cond-false (watches above g t i) (content (g b i)) (kept above g b t i) f)
-                  ∙ sym (cond-false (take_in t (suc i)) (Some v) (kept above g b t (suc i)) (out (suc i)))
-            ]
+      let ih = kept_content t i (omega arith) in
+      let more = pushed t i in
+      let watched = watches_same t i in
+      elim (cases_Bool (level above s t)) [
+        | inl e ↦ let st : s ≡ t = level_equal above ordered s t e in let hits : watches above g s i ≡ watches above g t i = ap (λ x. watches above g x i) st in grind (arith, nat_tests)
+        | inr e ↦ let miss = missed t i e in grind (arith, nat_tests, miss)
       ]
 
   late_same : (c : ℕ) → h c n ≡ g c n
