@@ -95,31 +95,23 @@ module _ {S V : Type 0} (K : Rules S V) (d : S × V) {owner : S → ℕ} {succes
   last x = cond-false (ltb K.n K.n) (f x K.n) (g x K.n) (le-ltb K.n K.n (omega arith))
 
   own_latest : (j : ℕ) → leads K r j ≡ true → f j j ≡ Some (r.latest j, r.latest_value j)
-  own_latest j e =
-      let p = and_parts (r.entered j) (K.fail_prone _) e in
-      cond-true (leads K r j) (fresh K.above r j j) None e
-      ∙ ap (λ o. option_map (λ v. (r.latest j, v)) o) (cond-true (r.entered j && level K.above (r.latest j) (r.latest j)) (Some (r.latest_value j)) (r.evidence j (r.latest j))
-      (and_from (r.entered j) (level K.above (r.latest j) (r.latest j)) p.0 (level_same K.above ordered (r.latest j))))
+  own_latest j e = let same = level_same K.above ordered (r.latest j) in grind (arith, nat_tests, same)
 
   not_content : (x j : ℕ) → leads K r j ≡ false → f x j ≡ None
-  not_content x j e = cond-false (leads K r j) (fresh K.above r x j) None e
+  not_content x j e = grind (arith, nat_tests)
 
   slots_lead : (i : ℕ) → i ≤ K.n → slots h i ≡ leaders K r i
   slots_lead zero l = refl
   slots_lead (suc i) l =
       let here : i < K.n = omega arith in
-      ap₂ ◌++◌ (slots_lead i (omega arith))
-      (elim (cases_Bool (leads K r i)) [
-        | inl e ↦ ap (λ y. listed (timestamp_of y)) (slot i i here ∙ own_latest i e) ∙ sym (cond-true (leads K r i) (r.latest i ∷ []) [] e)
-        | inr e ↦ ap (λ y. listed (timestamp_of y)) (slot i i here ∙ not_content i i e) ∙ sym (cond-false (leads K r i) (r.latest i ∷ []) [] e)
-      ])
+      let ih = slots_lead i (omega arith) in
+      let at = slot i i here in
+      elim (cases_Bool (leads K r i)) [ inl e ↦ let own = own_latest i e in grind (arith, nat_tests) | inr e ↦ let none = not_content i i e in grind (arith, nat_tests) ]
 
   watches_lead : (s : S) (i : ℕ) → i < K.n → watches K.above h s i ≡ (leads K r i && level K.above s (r.latest i))
   watches_lead s i here =
-      elim (cases_Bool (leads K r i)) [
-        | inl e ↦ ap (λ y. equals K.above s (timestamp_of y)) (slot i i here ∙ own_latest i e) ∙ ap (λ t. t && level K.above s (r.latest i)) (sym e)
-        | inr e ↦ ap (λ y. equals K.above s (timestamp_of y)) (slot i i here ∙ not_content i i e) ∙ ap (λ t. t && level K.above s (r.latest i)) (sym e)
-      ]
+      let at = slot i i here in
+      elim (cases_Bool (leads K r i)) [ inl e ↦ let own = own_latest i e in grind (arith, nat_tests) | inr e ↦ let none = not_content i i e in grind (arith, nat_tests) ]
 
   kept_lead : (c : ℕ) (s : S) (i : ℕ) → i ≤ K.n → kept K.above h c s i ≡ cond (among K.above s (leaders K r i)) (has K.above r c s) None
   kept_lead c s zero l = refl
@@ -127,19 +119,17 @@ module _ {S V : Type 0} (K : Rules S V) (d : S × V) {owner : S → ℕ} {succes
       let here : i < K.n = omega arith in
       let t : Bool = leads K r i && level K.above s (r.latest i) in
       let more : among K.above s (leaders K r (suc i)) ≡ (among K.above s (leaders K r i) || t) = lead_push K.above s (r.latest i) (leaders K r i) (leads K r i) in
-      ap (λ x. cond x (content (h c i)) (kept K.above h c s i)) (watches_lead s i here)
-      ∙ elim (cases_Bool t) [
+      let watched = watches_lead s i here in
+      let ih = kept_lead c s i (omega arith) in
+      elim (cases_Bool t) [
         | inl e ↦
             let p = and_parts (leads K r i) (level K.above s (r.latest i)) e in
             let st : s ≡ r.latest i = level_equal K.above ordered s (r.latest i) p.1 in
-            cond-true t (content (h c i)) (kept K.above h c s i) e
-            ∙ ap content (slot c i here ∙ cond-true (leads K r i) (fresh K.above r c i) None p.0)
-            ∙ content_carried (r.latest i) (has K.above r c (r.latest i)) ∙ ap (λ x. has K.above r c x) (sym st)
-            ∙ sym (cond-true (among K.above s (leaders K r (suc i))) (has K.above r c s) None (more ∙ or_right (among K.above s (leaders K r i)) t e))
-        | inr e ↦
-            cond-false t (content (h c i)) (kept K.above h c s i) e
-            ∙ kept_lead c s i (omega arith)
-            ∙ ap (λ x. cond x (has K.above r c s) None) (sym (more ∙ ap (λ y. among K.above s (leaders K r i) || y) e ∙ or_false (among K.above s (leaders K r i))))
+            let own : content (h c i) ≡ has K.above r c (r.latest i) =
+            ap content (slot c i here ∙ cond-true (leads K r i) (fresh K.above r c i) None p.0) ∙ content_carried (r.latest i) (has K.above r c (r.latest i)) in
+            let same = ap (λ x. has K.above r c x) st in
+            grind (arith, nat_tests)
+        | inr e ↦ grind (arith, nat_tests)
       ]
 
   pub enter_all : shown K.above d K.n h ≡ rewatched K r

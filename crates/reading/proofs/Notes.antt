@@ -120,16 +120,9 @@ module _ {S V : Type 0} (above : S → S → Bool) {owner : S → ℕ} {low : S}
       (λ c. ap (λ x. (unwrap_or (cond (ltb c n) x None) d).1) (late_same c))
       (slots_same h g n (λ j l. time_same j))
       (λ c t. elim (cases_Bool (eqb b c)) [
-        | inl e ↦
-            let bc : b ≡ c = eqb-true b c e in
-            let l : ltb c n ≡ true = lt-ltb c n (omega arith) in
-            cond-true (ltb c n) (kept above h c t n) None l
-            ∙ ap (λ x. kept above h x t n) (sym bc) ∙ kept_content t n (omega arith)
-            ∙ ap (λ x. cond (take_in t n) (Some v) (kept above g x t n)) bc
-            ∙ ap (λ x. cond (take_in t n) (Some v) x) (sym (cond-true (ltb c n) (kept above g c t n) None l))
-            ∙ ap (λ x. cond (x && take_in t n) (Some v) (cond (ltb c n) (kept above g c t n) None)) (sym e)
+        | inl e ↦ let bc : b ≡ c = eqb-true b c e in let own = kept_content t n (omega arith) in grind (arith, nat_tests)
         | inr e ↦
-            guard c n (kept above h c t n) (kept above g c t n) None (λ l.
-            kept_same above h g c t n (λ j m. watches_same t j) (λ j m. ap content (other c j (and_left (eqb b c) (ltb j n && watches above g s j) e))))
-            ∙ sym (cond-false (eqb b c && take_in t n) (Some v) (cond (ltb c n) (kept above g c t n) None) (and_left (eqb b c) (take_in t n) e))
+            let kept_other : kept above h c t n ≡ kept above g c t n =
+            kept_same above h g c t n (λ j m. watches_same t j) (λ j m. ap content (other c j (and_left (eqb b c) (ltb j n && watches above g s j) e))) in
+            grind (arith, nat_tests)
       ])
