@@ -1,21 +1,17 @@
 -- The slots after a server has entered.
-use Rattle.std.proofs.Common.{◌≡◌, ℕ, zero, suc, ◌+◌, ◌*◌, ◌/◌, ◌%◌, ◌<◌, ◌≤◌, Bool, true, false, cond, ◌&&◌, ◌||◌, eqb, ltb, leb, List, [], ◌∷◌, ◌++◌, Some, None, Option, sym, refl, ap, ◌∙◌, ap₂, inl, inr, mod-lt, arith}
+use Rattle.std.proofs.Common.{◌≡◌, ℕ, zero, suc, ◌+◌, ◌*◌, ◌/◌, ◌%◌, ◌<◌, ◌≤◌, Bool, true, false, cond, ◌&&◌, ◌||◌, ltb, leb, List, [], ◌∷◌, ◌++◌, Some, None, Option, sym, refl, ap, ◌∙◌, inl, inr, mod-lt, arith}
 use Rattle.std.proofs.lemmas.Nat.{mul-add-lt, div-mul-add, mod-mul-add, div_below, div-add-mod'}
 use Rattle.std.proofs.lemmas.Bool.Decides.{nat_tests}
-use Rattle.std.proofs.lemmas.Bool.{both_ways, cases_lt, cases_order, le-leb, lt-leb, eq-eqb, eqb-true, cases_Bool, and_parts, cond-true, cond-false, lt-ltb, le-ltb, ltb-true, ltb-false, and_left, and_right, and_from, or_right}
+use Rattle.std.proofs.lemmas.Bool.{cases_lt, cases_Bool, and_parts, cond-true, cond-false, lt-ltb, le-ltb, ltb-false}
 use Rattle.std.specs.Prelude.{is_some}
 use Rattle.std.specs.Option.{option_map, unwrap_or}
 use Rattle.timestamps.specs.Laws.{TimestampLaws}
 use Rattle.reading.specs.Readings.{Reading, Rules, level, among, leads, leaders, rewatched, unread}
-use Rattle.reading.specs.Reports.{Report, Grid, timestamp_of, content, listed, slots, equals, watches, kept, shown, put_at, has, fresh, anew, renew_from}
-use Rattle.reading.proofs.Views.{same_reading, gone}
+use Rattle.reading.specs.Reports.{Report, Grid, content, slots, watches, kept, shown, put_at, has, fresh, anew, renew_from}
+use Rattle.reading.proofs.Views.{same_reading}
 use Rattle.reading.proofs.Notes.{level_equal, level_same, among_push}
 
 -- ---- entry by entry
-
-and_true : (x : Bool) → (x && true) ≡ x
-and_true true = refl
-and_true false = refl
 
 -- past another place than i
 beyond : (i m : ℕ) → (m ≡ i → ⊥) → leb (i + 1) m ≡ leb i m
@@ -69,10 +65,6 @@ content_carried s (Some v) = refl
 lead_push : {S : Type 0} (above : S → S → Bool) (s t : S) (xs : List S) (c : Bool) → among above s (xs ++ cond c (t ∷ []) []) ≡ (among above s xs || (c && level above s t))
 lead_push above s t xs true = among_push above s xs (Some t)
 lead_push above s t xs false = among_push above s xs None
-
-or_false : (x : Bool) → (x || false) ≡ x
-or_false true = refl
-or_false false = refl
 
 cond_same : {A : Type 0} (b : Bool) (x : A) → cond b x x ≡ x
 cond_same true x = refl
@@ -140,15 +132,11 @@ module _ {S V : Type 0} (K : Rules S V) (d : S × V) {owner : S → ℕ} {succes
       (λ c. ap (λ x. (unwrap_or (cond (ltb c K.n) x None) d).1) (last c))
       (slots_lead K.n (omega arith))
       (λ c s. elim (cases_Bool (ltb c K.n)) [
-        | inl e ↦ cond-true (ltb c K.n) (kept K.above h c s K.n) None e ∙ kept_lead c s K.n (omega arith)
+        | inl e ↦ let own = kept_lead c s K.n (omega arith) in grind (arith, nat_tests)
         | inr e ↦
             let out : K.n ≤ c = ltb-false c K.n e in
-            let nothing : has K.above r c s ≡ None =
-            cond-false (r.entered c && level K.above (r.latest c) s) (Some (r.latest_value c)) (r.evidence c s)
-            (and_left (r.entered c) (level K.above (r.latest c) s) (ap is_some (gone c K.n (g c K.n) None out)))
-            ∙ gone c K.n (kept K.above g c s K.n) None out in
-            cond-false (ltb c K.n) (kept K.above h c s K.n) None e
-            ∙ sym (ap (λ o. cond (among K.above s (leaders K r K.n)) o None) nothing ∙ cond_same (among K.above s (leaders K r K.n)) None)
+            let unknown : has K.above r c s ≡ None = grind (arith, nat_tests) in
+            grind (arith, nat_tests)
       ])
 
 -- ---- nothing is known

@@ -1,13 +1,13 @@
 -- Evidence that is read and written slot by slot.
 use Rattle.std.proofs.Common.{◌≡◌, ℕ, zero, suc, ◌+◌, ◌<◌, ◌≤◌, Bool, true, false, cond, not, ◌&&◌, ◌||◌, eqb, ltb, List, [], ◌∷◌, ◌++◌, Some, None, Option, sym, refl, ap, ◌∙◌, inl, inr, arith}
-use Rattle.std.proofs.lemmas.Bool.{cases_Bool, and_parts, eqb-true, eq-eqb, cond-true, cond-false, lt-ltb, le-ltb, not-true, and_left, and_right, and_from, both_ways, false≢true, not_from_false}
+use Rattle.std.proofs.lemmas.Bool.{cases_Bool, and_parts, eqb-true, cond-true, cond-false, not-true, and_left, and_right, and_from, both_ways, false≢true, not_from_false}
 use Rattle.std.proofs.lemmas.Bool.Decides.{nat_tests}
 use Rattle.std.specs.Prelude.{is_some}
 use Rattle.std.specs.Option.{unwrap_or}
 use Rattle.timestamps.specs.Laws.{TimestampLaws}
 use Rattle.reading.specs.Readings.{level, among, noted}
 use Rattle.reading.specs.Reports.{Grid, timestamp_of, content, listed, slots, equals, watches, kept, shown, put_at, note_to}
-use Rattle.reading.proofs.Views.{same_reading, guard, slots_same, kept_same}
+use Rattle.reading.proofs.Views.{same_reading, slots_same, kept_same}
 
 -- ---- one slot more
 
