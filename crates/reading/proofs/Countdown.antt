@@ -1,10 +1,13 @@
 -- The servers from the last to the first, as a range gives them in reverse.
 use Rattle.std.proofs.Common.{inl, inr, ◌≤◌, ◌≡◌, ℕ, zero, suc, ◌+◌, ◌-◌, List, [], ◌∷◌, length, Bool, true, false, ltb, Option, None, Some, cond, refl, sym, ap, ap₂, ◌∙◌, arith, subst}
 use Rattle.std.specs.List.{find, fold}
-use Rattle.std.specs.Option.{option_and_then, option_map}
+use Rattle.std.specs.Option.{option_and_then}
 use Rattle.std.proofs.lemmas.Bool.{cases_lt, cond-true, cond-false, lt-ltb, le-ltb}
 use Rattle.std.proofs.lemmas.Iterator.Adapters.{option_map_id}
-use Rattle.std.specs.Iterator.{AlwaysYields}
+use Rattle.std.specs.Borrow.{Bor}
+use Rattle.std.specs.Fn.{Mut, CalledAt}
+use Rattle.std.specs.Iterator.{AlwaysYields, FindsItem}
+use Rattle.std.proofs.lemmas.Iterator.Search.{find_from_yields_List}
 use Rattle.std.specs.Iterator.Adapters.{rev_steps, rev_source}
 use Rattle.std.proofs.iter.Yields.{listed}
 use Rattle.std.proofs.iter.runs.Sources.{nat_range_steps_back}
@@ -43,6 +46,11 @@ countdown_yields {s} n e =
     let all : n - 0 ≡ n = omega arith in
     record { runs = subst (λ k. AlwaysYields down_steps (λ x. x) s (countdown 0 k)) all (subst (λ (r : Range ℕ). AlwaysYields down_steps (λ x. x) s (countdown r.start (r.end - r.start))) e (all_yielded s)) }
 
+-- what find returns over them
+pub found_down : {F : Type 0} {g : Mut F (Bor ℕ × Unit {0}) Bool} {s : Rev (Range ℕ)} (n : ℕ) (test : ℕ → Bool) (u : Rev (Range ℕ)) (f : F) (r : Option ℕ) → rev_source s ≡ record { start = 0; end = n }
+    → FindsItem down_steps g s f r u → ((x : ℕ) (b : Bool) (q : F) → CalledAt g f x b q → (q ≡ f) × (b ≡ test x)) → r ≡ find test (countdown 0 n)
+found_down n test u f r source ran computes = sym (option_map_id r) ∙ find_from_yields_List test u f r ran (countdown_yields n source) computes
+
 -- ---- the last watched slot
 
 picked : {A : Type 0} (w : Bool) (f : ℕ → Option A) (x : ℕ) (r : Option ℕ) → cond w (f x) (option_and_then f r) ≡ option_and_then f (cond w (Some x) r)
@@ -64,12 +72,12 @@ module _ {S V : Type 0} (above : S → S → Bool) (g : Grid S V) (b : ℕ) (t :
   nothing (Some j) past = ap content (past j)
 
   -- the slot that was found has the evidence; servers from n on report nothing
-  pub kept_found : (n : ℕ) (r : Option ℕ) → (n ≤ b → (j : ℕ) → g b j ≡ None) → option_map (λ j. j) r ≡ find (watches above g t) (countdown 0 n)
+  pub kept_found : (n : ℕ) (r : Option ℕ) → (n ≤ b → (j : ℕ) → g b j ≡ None) → r ≡ find (watches above g t) (countdown 0 n)
       → cond (ltb b n) (kept above g b t n) None ≡ option_and_then (λ j. content (g b j)) r
   kept_found n r past found =
       elim (cases_lt b n) [
         | inl l ↦ cond-true (ltb b n) (kept above g b t n) None (lt-ltb b n l) ∙ kept_last n
-            ∙ ap (λ o. option_and_then (λ j. content (g b j)) o) (sym found ∙ option_map_id r)
+            ∙ ap (λ o. option_and_then (λ j. content (g b j)) o) (sym found)
         | inr l ↦ cond-false (ltb b n) (kept above g b t n) None (le-ltb b n l) ∙ sym (nothing r (past l))
       ]
 
