@@ -19,10 +19,11 @@ Grid S V = ℕ → ℕ → Report S V
 abbrev pub cell : {R : Type 0} → ℕ → List (Option R) → ℕ → ℕ → Option R
 cell n p b k = slice_index_or p (b * (n + 1) + k) None
 
--- the timestamp and the value that an entry reports
+-- the timestamp that an entry reports
 abbrev pub timestamp_of : {S V : Type 0} → Report S V → Option S
 timestamp_of r = option_map (λ p. p.0) r
 
+-- the value that it reports
 abbrev pub content : {S V : Type 0} → Report S V → Option V
 content r = option_map (λ p. p.1) r
 

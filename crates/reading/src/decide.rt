@@ -46,7 +46,7 @@ impl<S: Timestamp, V: Value> Reports<'_, S, V> {
     fn is_shared<Q: QuorumSystem>(&self, system: &Q, timestamp: S, server: u8) -> bool
         ensures { result ≡ passes (λ v. Q.quorum system.now (backers V.same (known S.Timestamp V.Value self.now) timestamp v)) ((known S.Timestamp V.Value self.now).evidence server timestamp) }
     {
-        // Kept: of is_some_and's closure over is_backed a proof learns nothing here.
+        // Kept: with is_some_and the proof did not close.
         match self.evidence_of(server, timestamp) {
             Some(value) => self.is_backed(system, timestamp, value),
             None => false,

@@ -73,7 +73,7 @@ impl<S: Timestamp, V: Value> Reports<'_, S, V> {
     }
 
     // Writes the slots from the i-th on anew, counted row by row. Each is read on the way down and written on the way up, so that all are made from the reports as they were.
-    // Kept: a recursion, since no heap and no lent memory could hold the old slots meanwhile.
+    // Kept: a recursion, since there is neither a heap nor lent memory for a copy of the old slots.
     fn renew(&mut self, leading: ServerSet, i: u16)
         ensures kept { Kept self.old self.new }
         ensures after { (x k : ℕ) → x < self.old.n → k ≤ self.old.n → cell self.old.n self.new.entries.now x k ≡ renew_from (anew S.above (members leading) (known S.Timestamp V.Value self.old)) self.old.n i (cell self.old.n self.old.entries.now) x k }
