@@ -1,4 +1,4 @@
-use Rattle.std.proofs.Common.{◌≡◌, Some, sym, ap, ◌∙◌, arith}
+use Rattle.std.proofs.Common.{rules, ◌≡◌, Some, sym, ap, ◌∙◌, arith}
 use Rattle.reading.specs.Reports.{timestamp_of, equals, cell, watches, note_to, view}
 use Rattle.reading.proofs.Cells.{put_cell}
 use Rattle.reading.proofs.Views.{shown_same}
@@ -22,14 +22,14 @@ loop-slot-preserved g c =
     let same : watches above (cell r.n r.entries.now) s j ≡ watches above grid s j = ap (λ e. equals above s (timestamp_of e)) at in
     elim c.if-is_watched.branch [
       | then-is_watched w ↦ record {
-        kept = record { servers = ap (λ q. q.n) w.self-is ∙ w.put.ensures.kept.servers ∙ size; memory = ap (λ q. q.entries.ghost_name) w.self-is ∙ w.put.ensures.kept.memory ∙ c.loop-slot.invariant.kept.memory };
+        kept = search rules;
         cells = λ x k l. ap (λ q. cell n q.entries.now x k) w.self-is
             ∙ ap (λ m. cell m w.put.new.self.entries.now x k) (sym size)
             ∙ put_cell r w.put.new.self b j (Some (s, v)) (omega arith) (omega arith) w.put.ensures.written x k (omega arith)
             ∙ note_yes above grid b s v j (cell r.n r.entries.now) x k (sym same ∙ sym w.if-is_watched.ensures) (ap (λ m. cell m r.entries.now x k) size ∙ c.loop-slot.invariant.cells x k l);
       }
       | else-is_watched w ↦ record {
-        kept = record { servers = ap (λ q. q.n) w.self-is ∙ size; memory = ap (λ q. q.entries.ghost_name) w.self-is ∙ c.loop-slot.invariant.kept.memory };
+        kept = search rules;
         cells = λ x k l. ap (λ q. cell n q.entries.now x k) w.self-is ∙ c.loop-slot.invariant.cells x k l ∙ note_no above grid b s v j x k (sym same ∙ sym w.if-is_watched.ensures);
       }
     ]
