@@ -26,15 +26,6 @@ module _ {S : Type 0} (above : S → S → Bool) (f : ℕ → Listener S) (t : S
   wanting_first zero = omega arith
   wanting_first (suc n) = omega (arith, wanting_first n)
 
-  at_most_one : (b : Bool) → cond b 1 0 ≤ 1
-  at_most_one true = omega arith
-  at_most_one false = omega arith
-
-  -- no more than there are clients
-  pub wanting_few : (i : ℕ) → wanting above f t i ≤ i
-  wanting_few zero = omega arith
-  wanting_few (suc i) = omega (arith, wanting_few i, at_most_one (wants above (f i) t))
-
   -- no fewer for more clients
   wanting_grows : (i k : ℕ) → wanting above f t i ≤ wanting above f t (i + k)
   wanting_grows i zero = let e : i ≡ i + 0 = omega arith in let h = ap (wanting above f t) e in omega arith

@@ -39,6 +39,7 @@ impl<S: Timestamp, V: Value> Server<S, V> {
     }
 
     // Takes a message: a correct server does what the protocol says, and a faulty one nothing.
+    // Kept: a struct of network and memory, lent beside the row of listeners, has no generated proof here.
     pub fn receive(
         &mut self,
         listeners: &mut [Listener<S>],

@@ -50,9 +50,8 @@ pub(crate) fn pass_on<S: Timestamp, V: Value>(
     requires room { Room network.old (length memory.old) (wanting S.above (listener_in S.lowest listeners.now) message.timestamp (length listeners.now)) }
     ensures { Sent network.old memory.old (passed_on S.above message (listener_in S.lowest listeners.now) (length listeners.now)) network.new memory.new }
 {
-    let timestamp = message.timestamp;
     for (client, listener) in listeners.iter().enumerate() {
-        if listener.wants(timestamp) {
+        if listener.wants(message.timestamp) {
             send(network, memory, listener.passed(message, client as u8));
         }
     }
