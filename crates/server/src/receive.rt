@@ -78,6 +78,7 @@ impl<S: Timestamp, V: Value> Server<S, V> {
     }
 
     // What a correct server does with a message of a kind.
+    #[tactic(auto, using(network::proofs::Sending::sent_none))]
     fn react_by_kind(
         &mut self,
         kind: Kind,

@@ -8,19 +8,12 @@ use Rattle.server.proofs.Passing.{room_fewer, passed_count}
 use Rattle.server.specs.Receiving.{listener_in}
 use Rattle.server.proofs.state.Server.answer_store.Goals as goal
 
-pub send-requires : goal.send-requires
-send-requires g c = room_fewer c.args.network.now (length c.args.memory.now) _ 1 (omega arith) c.requires.room
-
-pub pass_on-requires : goal.pass_on-requires
-pass_on-requires g c =
+pub pass_on-requires-clause-room : goal.pass_on-requires-clause-room
+pass_on-requires-clause-room g c =
     let row = c.args.listeners.now in
-    let f = listener_in g.S.Timestamp.lowest row in
-    let count = passed_count g.S.Timestamp.above c.args.message f (length row) in
-    record {
-      few = c.requires.few;
-      room = room_after c.args.network.now c.send.new.network c.args.memory.now c.send.new.memory (c.reply.result ∷ []) _ c.send.ensures
-          (room_fewer c.args.network.now (length c.args.memory.now) _ _ (omega (arith, count)) c.requires.room);
-    }
+    let count = passed_count g.S.Timestamp.above c.args.message (listener_in g.S.Timestamp.lowest row) (length row) in
+    room_after c.args.network.now c.send.new.network c.args.memory.now c.send.new.memory (c.reply.result ∷ []) _ c.send.ensures
+    (room_fewer c.args.network.now (length c.args.memory.now) _ _ (omega (arith, count)) c.requires.room)
 
 pub returns : goal.returns
 returns g c =

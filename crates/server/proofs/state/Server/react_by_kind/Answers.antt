@@ -1,6 +1,5 @@
 use Rattle.std.proofs.Common.{length, sym, subst}
 use Rattle.network.specs.declared.message.Kind.{Kind}
-use Rattle.network.proofs.Sending.{sent_none}
 use Rattle.server.specs.Serving.{by_kind}
 use Rattle.server.specs.Receiving.{state_of, Reacted}
 use Rattle.server.proofs.state.Server.react_by_kind.Goals as goal
@@ -14,13 +13,3 @@ returns-in-Query g c =
     (by_kind g.S.Timestamp.above lowest g.V.Value.initial_value k (length row) (state_of lowest c.args.self.now row) c.args.message)
     c.args.self.now row c.answer_query.new.network c.answer_query.new.memory in
     subst P (sym c.in-Query.is) (c.answer_query.ensures row)
-
-pub returns-in-Stop : goal.returns-in-Stop
-returns-in-Stop g c =
-    let lowest = g.S.Timestamp.lowest in
-    let row = c.args.listeners.now in
-    let P : Kind → Type 0 = λ k.
-    Reacted lowest c.args.network.now c.args.memory.now
-    (by_kind g.S.Timestamp.above lowest g.V.Value.initial_value k (length row) (state_of lowest c.args.self.now row) c.args.message)
-    c.args.self.now c.answer_stop.new.listeners c.args.network.now c.args.memory.now in
-    subst P (sym c.in-Stop.is) (record { state_after = c.answer_stop.ensures; sent_after = sent_none c.args.network.now c.args.memory.now })
