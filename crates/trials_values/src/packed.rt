@@ -1,6 +1,6 @@
 // Packed timestamps: their order, and the next of a client.
-use timestamps::Timestamp;
 use timestamps::packed::Packed;
+use timestamps::{Timestamp, higher_of, is_level};
 
 const LAST: u64 = 18446744073709551615;
 
@@ -31,10 +31,7 @@ fn order_is_that_of_numbers(rt: HostRuntime) {
 
 // The number of the client's next timestamp above two numbers.
 fn next(client: u8, a: u64, b: u64) -> Option<u64> {
-    match Packed::next(client, Packed::new(a), Packed::new(b)) {
-        Some(timestamp) => Some(timestamp.number),
-        None => None,
-    }
+    Packed::next(client, Packed::new(a), Packed::new(b)).map(|timestamp| timestamp.number)
 }
 
 #[test]
@@ -77,5 +74,16 @@ fn clients_from_64_on_have_no_timestamp(rt: HostRuntime) {
     for client in [64, 65, 128, 255] {
         assert_eq!(rt; next(client, 0, 0), None);
         assert_eq!(rt; next(client, LAST, 0), None);
+    }
+}
+
+#[test]
+fn the_higher_of_two_has_the_higher_number(rt: HostRuntime) {
+    for (a, b, higher) in [(0, 0, 0), (69, 70, 70), (LAST, 5, LAST)] {
+        assert_eq!(rt;
+            higher_of(Packed::new(a), Packed::new(b)),
+            Packed::new(higher)
+        );
+        assert_eq!(rt; is_level(Packed::new(a), Packed::new(b)), a == b);
     }
 }

@@ -1,22 +1,16 @@
 // Paired timestamps: their order, and the next of a client.
 use std::test::Fail;
-use timestamps::Timestamp;
 use timestamps::paired::Paired;
+use timestamps::{Timestamp, higher_of, is_level};
 
 const LAST: u32 = 4294967295;
 
 fn parts(timestamp: Option<Paired>) -> Option<(u32, u8)> {
-    match timestamp {
-        Some(timestamp) => Some((timestamp.count, timestamp.client)),
-        None => None,
-    }
+    timestamp.map(|timestamp| (timestamp.count, timestamp.client))
 }
 
 fn paired(parts: (u32, u8)) -> Result<Paired, Fail> {
-    match Paired::new(parts.0, parts.1) {
-        Some(timestamp) => Ok(timestamp),
-        None => Err(Fail::new("no such client")),
-    }
+    Paired::new(parts.0, parts.1).ok_or_else(|| Fail::new("no such client"))
 }
 
 #[test]
@@ -89,6 +83,21 @@ fn next_runs_out_at_the_last_count(rt: HostRuntime) -> Result<(), Fail> {
     ];
     for (client, a, b, chosen) in choices {
         assert_eq!(rt; next(client, a, b)?, chosen);
+    }
+    Ok(())
+}
+
+#[test]
+fn the_higher_of_two_is_above_the_other(rt: HostRuntime) -> Result<(), Fail> {
+    let pairs = [
+        ((3, 5), (3, 5), (3, 5)),
+        ((3, 6), (3, 5), (3, 6)),
+        ((3, 63), (4, 0), (4, 0)),
+        ((LAST, 0), (0, 63), (LAST, 0)),
+    ];
+    for (a, b, higher) in pairs {
+        assert_eq!(rt; higher_of(paired(a)?, paired(b)?), paired(higher)?);
+        assert_eq!(rt; is_level(paired(a)?, paired(b)?), a == b);
     }
     Ok(())
 }
