@@ -108,6 +108,10 @@ impl<Q: QuorumSystem> Register<Q> {
         message: Message<S, V>,
     ) -> Answer<S, V>
         ensures loans { SameLoans memory.old memory.new }
+        ensures servers { memory.new.servers.now ≡ memory.old.servers.now }
+        ensures clients { memory.new.clients.now ≡ memory.old.clients.now }
+        ensures listeners { memory.new.listeners.now ≡ memory.old.listeners.now }
+        ensures reports { memory.new.reports.now ≡ memory.old.reports.now }
         ensures answers { Answers (kinds Q.QuorumSystem S.Timestamp V.Value self.old) self.old (contents memory.old) (Forge message.server message.client message.kind message.number message.timestamp message.value) result self.new (contents memory.new) }
     {
         Answer::from(self.try_forge(memory, message))
@@ -119,6 +123,10 @@ impl<Q: QuorumSystem> Register<Q> {
         message: Message<S, V>,
     ) -> Result<Answer<S, V>, Refusal>
         ensures loans { SameLoans memory.old memory.new }
+        ensures servers { memory.new.servers.now ≡ memory.old.servers.now }
+        ensures clients { memory.new.clients.now ≡ memory.old.clients.now }
+        ensures listeners { memory.new.listeners.now ≡ memory.old.listeners.now }
+        ensures reports { memory.new.reports.now ≡ memory.old.reports.now }
         ensures answers { Answers (kinds Q.QuorumSystem S.Timestamp V.Value self.old) self.old (contents memory.old) (Forge message.server message.client message.kind message.number message.timestamp message.value) (answer_of result) self.new (contents memory.new) }
     {
         self.check_memory(memory)?;

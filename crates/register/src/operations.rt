@@ -64,6 +64,9 @@ impl<Q: QuorumSystem> Register<Q> {
         value: V,
     ) -> Answer<S, V>
         ensures loans { SameLoans memory.old memory.new }
+        ensures servers { memory.new.servers.now ≡ memory.old.servers.now }
+        ensures listeners { memory.new.listeners.now ≡ memory.old.listeners.now }
+        ensures reports { memory.new.reports.now ≡ memory.old.reports.now }
         ensures answers { Answers (kinds Q.QuorumSystem S.Timestamp V.Value self.old) self.old (contents memory.old) (Write client value) result self.new (contents memory.new) }
     {
         Answer::from(self.try_write(memory, client, value))
@@ -76,6 +79,9 @@ impl<Q: QuorumSystem> Register<Q> {
         value: V,
     ) -> Result<Answer<S, V>, Refusal>
         ensures loans { SameLoans memory.old memory.new }
+        ensures servers { memory.new.servers.now ≡ memory.old.servers.now }
+        ensures listeners { memory.new.listeners.now ≡ memory.old.listeners.now }
+        ensures reports { memory.new.reports.now ≡ memory.old.reports.now }
         ensures answers { Answers (kinds Q.QuorumSystem S.Timestamp V.Value self.old) self.old (contents memory.old) (Write client value) (answer_of result) self.new (contents memory.new) }
     {
         self.check_memory(memory)?;
@@ -99,6 +105,8 @@ impl<Q: QuorumSystem> Register<Q> {
         client: u8,
     ) -> Answer<S, V>
         ensures loans { SameLoans memory.old memory.new }
+        ensures servers { memory.new.servers.now ≡ memory.old.servers.now }
+        ensures listeners { memory.new.listeners.now ≡ memory.old.listeners.now }
         ensures answers { ReadAnswers (kinds Q.QuorumSystem S.Timestamp V.Value self.old) self.old (contents memory.old) client result self.new (contents memory.new) }
     {
         Answer::from(self.try_read(memory, client))
@@ -110,6 +118,8 @@ impl<Q: QuorumSystem> Register<Q> {
         client: u8,
     ) -> Result<Answer<S, V>, Refusal>
         ensures loans { SameLoans memory.old memory.new }
+        ensures servers { memory.new.servers.now ≡ memory.old.servers.now }
+        ensures listeners { memory.new.listeners.now ≡ memory.old.listeners.now }
         ensures answers { ReadAnswers (kinds Q.QuorumSystem S.Timestamp V.Value self.old) self.old (contents memory.old) client (answer_of result) self.new (contents memory.new) }
     {
         self.check_memory(memory)?;
