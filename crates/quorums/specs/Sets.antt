@@ -1,5 +1,5 @@
 -- Sets of servers by their members, and the set that a mask stands for.
-use Rattle.std.specs.Prelude.{◌≡◌, ◌<◌, ◌≤◌, min, ℕ, zero, suc, ◌+◌, ◌/◌, ◌%◌, Bool, true, false, cond, not, ◌&&◌, ◌||◌, ◌==◌, nat_lt}
+use Rattle.std.specs.Prelude.{ℕ, zero, suc, ◌+◌, ◌/◌, ◌%◌, Bool, true, false, cond, not, ◌&&◌, ◌||◌, ◌==◌, nat_lt}
 use Rattle.quorums.specs.declared.sets.ServerSet.{ServerSet}
 
 -- a set of servers: which servers are in it
@@ -36,14 +36,6 @@ either a b i = a i || b i
 -- the servers that are not in the set
 abbrev pub outside : Set → Set
 outside a i = not (a i)
-
--- of the servers 0 .. n-1, and below 16, the set has those that the test holds of; it has no others
-abbrev pub Tested : (ℕ → Bool → Type 0) → ℕ → Set → Type 0
-Tested test n s = ((i : ℕ) → i < min n 16 → test i (s i)) × ((i : ℕ) → min n 16 ≤ i → s i ≡ false)
-
--- of a server below n, the test can only say whether the set has it; the set has no server from n or 16 on
-abbrev pub Tells : (ℕ → Bool → Type 0) → ℕ → Set → Type 0
-Tells test n s = ((i : ℕ) (r : Bool) → i < n → test i r → r ≡ s i) × ((i : ℕ) → min n 16 ≤ i → s i ≡ false)
 
 -- how many of the servers 0 .. n-1 are in the set
 unfoldable pub tally : ℕ → Set → ℕ

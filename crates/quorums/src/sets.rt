@@ -1,6 +1,6 @@
 // Sets of at most 16 servers.
 ghost use Rattle.std.specs.Prelude.{◌≡◌, ℕ, ◌-◌, ◌^◌, ◌<◌, ◌≤◌, ◌&&◌, ◌||◌, ◌==◌, nat_lt, min};
-ghost use Rattle.quorums.specs.Sets.{Set, members, none, below, either, tally, all, part_of, refused_size, Tested, Tells};
+ghost use Rattle.quorums.specs.Sets.{members, none, below, either, tally, all, part_of, refused_size};
 
 // So many servers a system has at most.
 pub const MOST_SERVERS: u8 = 16;
@@ -44,21 +44,6 @@ impl ServerSet {
         self.mask
             .checked_shr(server.into())
             .is_some_and(|rest| rest % 2 == 1)
-    }
-
-    // Those of the first n servers of which the test holds.
-    pub fn of<F: Fn(u8) -> bool>(n: u8, holds: F) -> ServerSet
-        requires { (i : ℕ) → i < n → F.pre holds i }
-        ensures tested { Tested (F.post holds) n (members result) }
-        ensures exact { (p : Set) → Tells (F.post holds) n p → members result ≡ p }
-    {
-        let mut set = ServerSet::empty();
-        for server in 0..n {
-            if holds(server) {
-                set = set.with(server);
-            }
-        }
-        set
     }
 
     // The first n servers, or all 16 where n is more.

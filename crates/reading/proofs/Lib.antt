@@ -1,3 +1,4 @@
+mod Choosing
 pub mod Views
 pub mod Cells
 pub mod Notes

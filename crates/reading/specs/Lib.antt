@@ -1,3 +1,4 @@
+pub mod Choosing
 pub mod Readings
 pub mod Reports
 pub mod Deciding

@@ -5,6 +5,7 @@ ghost use Rattle.reading.specs.Readings.{rules_for, backers, better, backed, dec
 ghost use Rattle.reading.specs.Reports.{cell, timestamp_of, known};
 ghost use Rattle.reading.specs.Deciding.{passes, bettered};
 
+use crate::order::servers_where;
 use crate::reports::Reports;
 use quorums::QuorumSystem;
 use quorums::sets::ServerSet;
@@ -32,7 +33,7 @@ impl<S: Timestamp, V: Value> Reports<'_, S, V> {
     fn backers(&self, timestamp: S, value: V) -> ServerSet
         ensures { members result ≡ backers V.same (known S.Timestamp V.Value self.now) timestamp value }
     {
-        ServerSet::of(self.n, |server| self.is_backer(timestamp, value, server))
+        servers_where(self.n, |server| self.is_backer(timestamp, value, server))
     }
 
     // Whether a quorum has this value as its evidence for the timestamp.

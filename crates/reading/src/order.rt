@@ -1,6 +1,7 @@
 // The servers' latest pairs, and the order that they put the servers in.
-ghost use Rattle.std.specs.Prelude.{◌≡◌, ◌<◌};
-ghost use Rattle.quorums.specs.Sets.{members};
+ghost use Rattle.std.specs.Prelude.{◌≡◌, ℕ, ◌<◌};
+ghost use Rattle.quorums.specs.Sets.{Set, members};
+ghost use Rattle.reading.specs.Choosing.{Tested, Tells};
 ghost use Rattle.reading.specs.Readings.{rules_for, ahead, newer, raised, leads};
 ghost use Rattle.reading.specs.Reports.{Kept, cell, late, known};
 
@@ -9,6 +10,21 @@ use quorums::QuorumSystem;
 use quorums::sets::ServerSet;
 use timestamps::Timestamp;
 use values::Value;
+
+// Those of the first n servers of which the test holds.
+pub(crate) fn servers_where<F: Fn(u8) -> bool>(n: u8, holds: F) -> ServerSet
+    requires { (i : ℕ) → i < n → F.pre holds i }
+    ensures tested { Tested (F.post holds) n (members result) }
+    ensures exact { (p : Set) → Tells (F.post holds) n p → members result ≡ p }
+{
+    let mut set = ServerSet::empty();
+    for server in 0..n {
+        if holds(server) {
+            set = set.with(server);
+        }
+    }
+    set
+}
 
 impl<S: Timestamp, V: Value> Reports<'_, S, V> {
     // The server's latest report; of a server from n on there is none.
@@ -67,7 +83,7 @@ impl<S: Timestamp, V: Value> Reports<'_, S, V> {
     fn ahead_of(&self, server: u8) -> ServerSet
         ensures { members result ≡ ahead S.above (known S.Timestamp V.Value self.now) server }
     {
-        ServerSet::of(self.n, |other| self.is_ahead(server, other))
+        servers_where(self.n, |other| self.is_ahead(server, other))
     }
 
     // Whether the server leads.
@@ -81,6 +97,6 @@ impl<S: Timestamp, V: Value> Reports<'_, S, V> {
     pub(crate) fn leaders<Q: QuorumSystem>(&self, system: &Q) -> ServerSet
         ensures { members result ≡ leads (rules_for Q.QuorumSystem S.Timestamp V.Value self.now.n system.now) (known S.Timestamp V.Value self.now) }
     {
-        ServerSet::of(self.n, |server| self.is_leader(system, server))
+        servers_where(self.n, |server| self.is_leader(system, server))
     }
 }

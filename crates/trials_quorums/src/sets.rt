@@ -44,33 +44,3 @@ fn set_contains_the_servers_of_its_mask(rt: HostRuntime) {
         assert_eq!(rt; set.contains(server), contained);
     }
 }
-
-#[test]
-fn set_of_a_test_has_servers_below_n_alone(rt: HostRuntime) {
-    let sets = [
-        (0, 0),
-        (1, 0),
-        (2, 2),
-        (5, 0b01010),
-        (15, 0x2aaa),
-        (16, 0xaaaa),
-        (17, 0xaaaa),
-        (255, 0xaaaa),
-    ];
-    for (n, mask) in sets {
-        assert_eq!(rt; ServerSet::of(n, |server| server % 2 == 1).mask, mask);
-    }
-}
-
-#[test]
-fn set_of_a_test_is_the_set_that_is_tested(rt: HostRuntime) {
-    for mask in [0, 1, 0b0101, 0x8000, 0xffff] {
-        let set = ServerSet { mask };
-        assert_eq!(rt; ServerSet::of(16, |server| set.contains(server)).mask, mask);
-        assert_eq!(rt;
-            ServerSet::of(3, |server| set.contains(server)).mask,
-            mask & 7
-        );
-        assert_eq!(rt; ServerSet::of(3, |_| true).mask, 7);
-    }
-}

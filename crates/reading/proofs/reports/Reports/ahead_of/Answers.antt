@@ -5,4 +5,4 @@ use Rattle.reading.proofs.Views.{gone}
 use Rattle.reading.proofs.reports.Reports.ahead_of.Goals as goal
 
 pub returns : goal.returns
-returns g c = c.of.ensures.exact _ (λ i r l e. search rules, λ i l. and_left _ _ (ap is_some (gone i c.args.self.now.n _ None (omega (arith, l)))))
+returns g c = c.servers_where.ensures.exact _ (λ i r l e. search rules, λ i l. and_left _ _ (ap is_some (gone i c.args.self.now.n _ None (omega (arith, l)))))

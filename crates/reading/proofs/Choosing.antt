@@ -3,7 +3,8 @@ use Rattle.std.proofs.Common.{◌≡◌, ℕ, ◌+◌, ◌<◌, ◌≤◌, min, 
 use mathlib.Core.Path.{fun_ext}
 use Rattle.std.proofs.lemmas.Bool.{cases_lt}
 use Rattle.std.proofs.lemmas.Bool.Decides.{nat_tests}
-use Rattle.quorums.specs.Sets.{Set, none, Tested, Tells}
+use Rattle.quorums.specs.Sets.{Set, none}
+use Rattle.reading.specs.Choosing.{Tested, Tells}
 
 earlier : (b r : Bool) (i n : ℕ) → i < n → (b || (i == n && (nat_lt n 16 && r))) ≡ b
 earlier b r i n l = grind (arith, nat_tests)

@@ -1,8 +1,9 @@
 use Rattle.std.proofs.Common.{◌≡◌, ap, ◌∙◌, subst, arith}
-use Rattle.quorums.specs.Sets.{members, Tested}
-use Rattle.quorums.proofs.Choosing.{put, left_out, tested_none, tested_more, tested_exact}
-use Rattle.quorums.proofs.sets.ServerSet.of.Goals as goal
-use Rattle.quorums.proofs.sets.ServerSet.of.Goals.{then-holds, else-holds}
+use Rattle.quorums.specs.Sets.{members}
+use Rattle.reading.specs.Choosing.{Tested}
+use Rattle.reading.proofs.Choosing.{put, left_out, tested_none, tested_more, tested_exact}
+use Rattle.reading.proofs.order.servers_where.Goals as goal
+use Rattle.reading.proofs.order.servers_where.Goals.{then-holds, else-holds}
 
 pub loop-server-init : goal.loop-server-init
 loop-server-init g c = tested_none (goal.F-post g c.args.holds) (members c.empty-set.result) c.empty-set.ensures.members
