@@ -1,8 +1,10 @@
 // A register of four servers, one of which may be faulty, and two clients, and what is seen of it.
-use crate::alike::{Alike, all_alike};
-use crate::says::{Said, in_short};
-use calls::Call;
+use crate::alike::is_same_client;
+use crate::steps::{Reply, Step, deliver};
+use calls::{Answer, Refusal};
 use client::state::{Client, Phase};
+use delivery::memory::Memory;
+use delivery::sizes::Sizes;
 use network::message::Message;
 use quorums::sets::ServerSet;
 use quorums::threshold::Threshold;
@@ -16,14 +18,58 @@ use timestamps::packed::Packed;
 use values::Value;
 use values::total::Total;
 
-pub type Note = Message<Packed, Total>;
+pub const QUERY: u8 = 1;
 
-pub type Step = Call<Packed, Total>;
+pub const TS: u8 = 2;
+
+pub const STORE: u8 = 3;
+
+pub const ACK: u8 = 4;
+
+pub const READ: u8 = 5;
+
+pub const VALUE: u8 = 6;
+
+pub const STOP: u8 = 7;
+
+pub type Note = Message<Packed, Total>;
 
 pub const CAPACITY: usize = 12;
 
-// How many entries of each slice are lent: servers, clients, listeners, messages, reports.
-pub const WHOLE: [usize; 5] = [4, 2, 8, 12, 40];
+// How many entries there are of each kind.
+pub const WHOLE: Sizes = Sizes {
+    servers: 4,
+    clients: 2,
+    listeners: 8,
+    messages: 12,
+    reports: 40,
+};
+
+// Sizes that are short of one entry.
+pub(crate) fn one_short() -> [Sizes; 5] {
+    [
+        Sizes {
+            servers: 3,
+            ..WHOLE
+        },
+        Sizes {
+            clients: 1,
+            ..WHOLE
+        },
+        Sizes {
+            listeners: 7,
+            ..WHOLE
+        },
+        Sizes {
+            messages: 11,
+            ..WHOLE
+        },
+        Sizes {
+            reports: 39,
+            ..WHOLE
+        },
+    ]
+}
 
 pub(crate) fn note(
     client: u8,
@@ -43,9 +89,31 @@ pub(crate) fn note(
     }
 }
 
+pub(crate) fn holds(timestamp: u64, total: u64) -> Server<Packed, Total> {
+    Server {
+        timestamp: Packed::new(timestamp),
+        value: Total::new(total),
+    }
+}
+
+// A client that has chosen no timestamp, after so many operations.
+pub(crate) fn client(number: u32, phase: Phase<Packed, Total>) -> Client<Packed, Total> {
+    Client {
+        number,
+        last: Packed::new(0),
+        phase,
+    }
+}
+
+// So many of the first entries, or all where there are fewer.
+fn first<T>(entries: &mut [T], count: usize) -> &mut [T] {
+    let count = count.min(entries.len());
+    &mut entries[..count]
+}
+
+// The memory of the register.
 #[derive(Clone, Copy)]
-pub struct Fixture {
-    pub register: Register<Threshold>,
+pub struct Lent {
     pub servers: [Server<Packed, Total>; 4],
     pub clients: [Client<Packed, Total>; 2],
     pub listeners: [Listener<Packed>; 8],
@@ -53,102 +121,125 @@ pub struct Fixture {
     pub reports: [Report<Packed, Total>; 40],
 }
 
+impl Lent {
+    // Lends all of it.
+    pub(crate) fn memory(&mut self) -> Memory<'_, Packed, Total> {
+        let Lent {
+            servers,
+            clients,
+            listeners,
+            messages,
+            reports,
+        } = self;
+        Memory {
+            servers,
+            clients,
+            listeners,
+            messages,
+            reports,
+        }
+    }
+
+    // Lends so many entries of each kind.
+    pub(crate) fn part(&mut self, sizes: Sizes) -> Memory<'_, Packed, Total> {
+        let Memory {
+            servers,
+            clients,
+            listeners,
+            messages,
+            reports,
+        } = self.memory();
+        Memory {
+            servers: first(servers, sizes.servers),
+            clients: first(clients, sizes.clients),
+            listeners: first(listeners, sizes.listeners),
+            messages: first(messages, sizes.messages),
+            reports: first(reports, sizes.reports),
+        }
+    }
+
+    // Whether all entries are the same.
+    pub(crate) fn is_like(&self, other: &Lent) -> bool {
+        self.servers == other.servers
+            && self
+                .clients
+                .iter()
+                .zip(other.clients.iter())
+                .all(|(a, b)| is_same_client(*a, *b))
+            && self.listeners == other.listeners
+            && self.messages == other.messages
+            && self.reports == other.reports
+    }
+}
+
+#[derive(Clone, Copy)]
+pub struct Fixture {
+    pub register: Register<Threshold>,
+    pub lent: Lent,
+}
+
 impl Fixture {
     // A register that was just opened; the memory of its messages and reports has any content.
     pub(crate) fn new() -> Result<Fixture, Fail> {
-        let system = Threshold::open(4, 1)?;
-        let report = Report {
-            present: true,
-            timestamp: Packed::new(77),
-            value: Total::new(7),
+        let register = Register {
+            system: Threshold::open(4, 1)?,
+            clients: 2,
+            capacity: CAPACITY,
+            len: 0,
+            faulty: ServerSet::empty(),
         };
-        Ok(Fixture {
-            register: Register {
-                system,
-                clients: 2,
-                capacity: CAPACITY,
-                len: 0,
-                faulty: ServerSet::empty(),
-            },
+        let lent = Lent {
             servers: [Server::initial(); 4],
             clients: [Client::initial(); 2],
             listeners: [Listener::silent(); 8],
             messages: [note(9, 9, 9, 9, 9, 9); CAPACITY],
-            reports: [report; 40],
-        })
+            reports: [Some((Packed::new(77), Total::new(7))); 40],
+        };
+        Ok(Fixture { register, lent })
     }
 
     // Whether record and memory are the same.
     pub(crate) fn is_like(&self, other: &Fixture) -> bool {
-        self.register.clients == other.register.clients
-            && self.register.capacity == other.register.capacity
-            && self.register.len == other.register.len
-            && self.register.faulty.mask == other.register.faulty.mask
-            && all_alike(&self.servers, &other.servers)
-            && all_alike(&self.clients, &other.clients)
-            && all_alike(&self.listeners, &other.listeners)
-            && all_alike(&self.messages, &other.messages)
-            && all_alike(&self.reports, &other.reports)
+        let a = &self.register;
+        let b = &other.register;
+        (a.clients, a.capacity, a.len, a.faulty) == (b.clients, b.capacity, b.len, b.faulty)
+            && self.lent.is_like(&other.lent)
     }
 
-    // Answers a call, with so many entries of each slice lent.
-    pub(crate) fn ask_with(&mut self, lent: [usize; 5], call: Step) -> Said {
-        let servers = lent[0].min(4);
-        let clients = lent[1].min(2);
-        let listeners = lent[2].min(8);
-        let messages = lent[3].min(CAPACITY);
-        let reports = lent[4].min(40);
-        in_short(
-            self.register.answer(
-                &mut self.servers[0..servers],
-                &mut self.clients[0..clients],
-                &mut self.listeners[0..listeners],
-                &mut self.messages[0..messages],
-                &mut self.reports[0..reports],
-                call,
-            ),
-        )
+    // Answers a call, with so many entries of each kind lent.
+    pub(crate) fn ask_with(&mut self, sizes: Sizes, call: Step) -> Reply {
+        self.register.answer(&mut self.lent.part(sizes), call)
     }
 
-    pub(crate) fn ask(&mut self, call: Step) -> Said {
-        in_short(
-            self.register.answer(
-                &mut self.servers,
-                &mut self.clients,
-                &mut self.listeners,
-                &mut self.messages,
-                &mut self.reports,
-                call,
-            ),
-        )
+    pub(crate) fn ask(&mut self, call: Step) -> Reply {
+        self.register.answer(&mut self.lent.memory(), call)
     }
 
-    // A call is refused with this number, and nothing changes.
-    pub(crate) fn refuses(&mut self, rt: &impl Abort, call: Step, number: u8) -> Result<(), Fail> {
+    // A call is refused, and nothing changes.
+    pub(crate) fn refuses(&mut self, rt: &impl Abort, call: Step, refusal: Refusal) {
         let before = *self;
-        assert_eq!(rt; self.ask(call), Said::Refused(number));
+        assert_eq!(rt; self.ask(call), Answer::Refused(refusal));
         assert!(rt; self.is_like(&before));
-        Ok(())
     }
 
     // Puts a message behind the others, and delivers it.
-    pub(crate) fn hand(&mut self, message: Note) -> Said {
+    pub(crate) fn hand(&mut self, message: Note) -> Reply {
         let place = self.register.len;
         self.post(message);
-        self.ask(Call::Deliver { place })
+        self.ask(deliver(place))
     }
 
     // Puts a message behind the others, where there is room.
     pub(crate) fn post(&mut self, message: Note) {
         if self.register.len < CAPACITY {
-            self.messages[self.register.len] = message;
+            self.lent.messages[self.register.len] = message;
             self.register.len += 1;
         }
     }
 
     // Client 0 has heard the timestamps of servers 0 and 1, of which 64 is the highest, in its write of this number.
     pub(crate) fn asks(&mut self, number: u32, last: u64) {
-        self.clients[0] = Client {
+        self.lent.clients[0] = Client {
             number,
             last: Packed::new(last),
             phase: Phase::Asking {
@@ -166,55 +257,41 @@ impl Fixture {
             listening: true,
             start: Packed::new(start),
         };
-        self.listeners[0] = listener;
-        self.listeners[1] = listener;
+        self.lent.listeners[0] = listener;
+        self.lent.listeners[1] = listener;
     }
 
-    pub(crate) fn client(&self, client: usize) -> Client<Packed, Total> {
-        if client < 2 {
-            self.clients[client]
-        } else {
-            Client::initial()
-        }
+    pub(crate) fn first_client(&self) -> Client<Packed, Total> {
+        self.lent.clients[0]
     }
 
-    pub(crate) fn put_client(&mut self, client: usize, state: Client<Packed, Total>) {
-        if client < 2 {
-            self.clients[client] = state;
+    // Puts a client at a place, where there is one.
+    pub(crate) fn put_client(&mut self, place: usize, client: Client<Packed, Total>) {
+        if let Some(entry) = self.lent.clients.get_mut(place) {
+            *entry = client;
         }
-    }
-
-    // Whether some server listens to some client.
-    pub(crate) fn listens(&self) -> bool {
-        for listener in self.listeners.iter() {
-            if listener.listening {
-                return true;
-            }
-        }
-        false
     }
 
     // How server 0 listens to client 1.
     pub(crate) fn listener(&self) -> Listener<Packed> {
-        self.listeners[1]
+        self.lent.listeners[1]
     }
 
-    // The timestamp and the total of a server.
-    pub(crate) fn held(&self, server: usize) -> (u64, u64) {
-        if server < 4 {
-            (
-                self.servers[server].timestamp.number,
-                self.servers[server].value.pence,
-            )
-        } else {
-            (0, 0)
-        }
+    // Whether some server listens to some client.
+    pub(crate) fn listens(&self) -> bool {
+        self.lent
+            .listeners
+            .iter()
+            .any(|listener| listener.listening)
     }
 
-    // What stands at a place of the queue.
-    pub(crate) fn holds(&self, rt: &impl Abort, place: usize, message: Note) -> Result<(), Fail> {
-        assert!(rt; place < self.register.len && place < CAPACITY);
-        assert!(rt; self.messages[place].is_like(&message));
-        Ok(())
+    // The message at a place of the queue.
+    pub(crate) fn message(&self, place: usize) -> Option<Note> {
+        self.lent
+            .messages
+            .iter()
+            .copied()
+            .take(self.register.len)
+            .nth(place)
     }
 }

@@ -1,10 +1,12 @@
 // Records and memory of any content: each call answers, and a refusal changes nothing.
-use crate::alike::{Alike, all_alike, phase_in_numbers};
-use crate::fixture::{CAPACITY, Fixture, Step, note};
-use crate::says::{Said, deliver, forge, read, turn, write};
+use crate::alike::{is_same_client, is_same_phase};
+use crate::fixture::{CAPACITY, Fixture, Lent, STORE, TS, VALUE, holds, note};
+use crate::steps::{Step, begun, deliver, forge, found, read, turn, write};
+use calls::Answer;
 use client::state::{Client, Phase};
 use quorums::sets::ServerSet;
-use server::state::{Listener, Server};
+use register::record::Register;
+use server::state::Listener;
 use std::process::Abort;
 use std::test::*;
 use timestamps::packed::Packed;
@@ -32,39 +34,40 @@ fn phases() -> [Phase<Packed, Total>; 4] {
 
 // A register with all servers and more faulty, listeners and clients of any content, and so many messages.
 fn odd(phase: Phase<Packed, Total>, last: u64, mask: u16, len: usize) -> Result<Fixture, Fail> {
-    let mut fixture = Fixture::new()?;
-    fixture.register.len = len;
-    fixture.register.faulty = ServerSet { mask };
-    fixture.servers = [Server {
-        timestamp: Packed::new(TOP),
-        value: Total::new(TOP),
-    }; 4];
-    fixture.listeners = [Listener {
+    let Fixture { register, lent } = Fixture::new()?;
+    let listener = Listener {
         number: 4_294_967_295,
         listening: true,
         start: Packed::new(0),
-    }; 8];
-    fixture.clients = [Client {
+    };
+    let client = Client {
         number: 7,
         last: Packed::new(last),
         phase,
-    }; 2];
-    Ok(fixture)
+    };
+    Ok(Fixture {
+        register: Register {
+            len,
+            faulty: ServerSet { mask },
+            ..register
+        },
+        lent: Lent {
+            servers: [holds(TOP, TOP); 4],
+            clients: [client; 2],
+            listeners: [listener; 8],
+            ..lent
+        },
+    })
 }
 
 // The call is answered, and a refusal changes nothing.
-fn is_answered(rt: &impl Abort, before: &Fixture, call: Step) -> Result<(), Fail> {
+fn is_answered(rt: &impl Abort, before: &Fixture, call: Step) {
     let mut fixture = *before;
-    match fixture.ask(call) {
-        Said::Refused(number) => {
-            assert!(rt; 0 < number && number < 14);
-            assert!(rt; fixture.is_like(before));
-            Ok(())
-        }
-        _ => {
-            assert!(rt; fixture.register.len <= CAPACITY);
-            Ok(())
-        },
+    if let Answer::Refused(refusal) = fixture.ask(call) {
+        assert!(rt; (1..14).contains(&u8::from(refusal)));
+        assert!(rt; fixture.is_like(before));
+    } else {
+        assert!(rt; fixture.register.len <= CAPACITY);
     }
 }
 
@@ -86,7 +89,7 @@ fn every_call_is_answered(rt: HostRuntime) -> Result<(), Fail> {
                 forge(0, 0, 6),
                 forge(15, 0, 6),
             ] {
-                is_answered(&rt, &fixture, call)?;
+                is_answered(&rt, &fixture, call);
             }
         }
     }
@@ -107,7 +110,7 @@ fn every_message_is_answered(rt: HostRuntime) -> Result<(), Fail> {
             for kind in [0, 1, 2, 3, 4, 5, 6, 7, 8, 255] {
                 let mut fixture = odd(phase, TOP, 0, len)?;
                 fixture.post(note(client, server, kind, number, TOP, TOP));
-                is_answered(&rt, &fixture, deliver(len))?;
+                is_answered(&rt, &fixture, deliver(len));
             }
         }
     }
@@ -116,39 +119,47 @@ fn every_message_is_answered(rt: HostRuntime) -> Result<(), Fail> {
 
 #[test]
 fn servers_past_the_last_do_not_count(rt: HostRuntime) -> Result<(), Fail> {
-    let mut fixture = odd(
-        Phase::Asking {
-            value: Total::new(10),
-            told: ServerSet { mask: 0xfff0 },
-            highest: Packed::new(64),
-        },
-        0,
-        0,
-        0,
-    )?;
+    let asking = Phase::Asking {
+        value: Total::new(10),
+        told: ServerSet { mask: 0xfff0 },
+        highest: Packed::new(64),
+    };
+    let mut fixture = odd(asking, 0, 0, 0)?;
     for server in 0..2 {
-        assert_eq!(rt; fixture.hand(note(0, server, 2, 7, 0, 0)), Said::Taken);
-        assert_eq!(rt; phase_in_numbers(fixture.client(0).phase).0, 1);
+        assert_eq!(rt; fixture.hand(note(0, server, TS, 7, 0, 0)), Answer::Taken);
+        let client = fixture.first_client();
+        assert!(rt; matches!(client.phase, Phase::Asking { .. }));
     }
-    assert_eq!(rt; fixture.hand(note(0, 2, 2, 7, 0, 0)), Said::Taken);
-    assert_eq!(rt; phase_in_numbers(fixture.client(0).phase), (2, 10, 0, 128));
-    fixture.holds(&rt, 0, note(0, 0, 3, 7, 128, 10))
+    assert_eq!(rt; fixture.hand(note(0, 2, TS, 7, 0, 0)), Answer::Taken);
+    let storing = Phase::Storing {
+        timestamp: Packed::new(128),
+        value: Total::new(10),
+        acknowledged: ServerSet { mask: 0 },
+    };
+    let client = fixture.first_client();
+    assert!(rt; is_same_phase(client.phase, storing));
+    assert_eq!(rt; fixture.message(0), Some(note(0, 0, STORE, 7, 128, 10)));
+    Ok(())
 }
 
 #[test]
 fn a_read_forgets_what_the_memory_held(rt: HostRuntime) -> Result<(), Fail> {
     let mut fixture = Fixture::new()?;
     let before = fixture;
-    assert_eq!(rt; fixture.ask(read(1)), Said::Begun(1, 1));
+    assert_eq!(rt; fixture.ask(read(1)), begun(1, 1));
     // the reports of the other client stay
-    assert!(rt; all_alike(&fixture.reports[0..20], &before.reports[0..20]));
-    assert!(rt; fixture.client(0).is_like(&before.client(0)));
+    assert_eq!(rt; &fixture.lent.reports[..20], &before.lent.reports[..20]);
+    let client = fixture.first_client();
+    assert!(rt; is_same_client(client, before.first_client()));
     for server in 0..2 {
-        assert_eq!(rt; fixture.hand(note(1, server, 6, 1, 64, 10)), Said::Taken);
+        assert_eq!(rt;
+            fixture.hand(note(1, server, VALUE, 1, 64, 10)),
+            Answer::Taken
+        );
     }
     assert_eq!(rt;
-        fixture.hand(note(1, 3, 6, 1, 64, 10)),
-        Said::Read(1, 1, 64, 10)
+        fixture.hand(note(1, 3, VALUE, 1, 64, 10)),
+        found(1, 1, 64, 10)
     );
     Ok(())
 }

@@ -16,6 +16,6 @@ mod refusals;
 #[cfg(test)]
 mod rooms;
 #[cfg(test)]
-mod says;
+mod steps;
 #[cfg(test)]
 mod writing;

@@ -1,52 +1,42 @@
 // How a register is opened, and what is refused.
-use crate::alike::Alike;
-use crate::fixture::{CAPACITY, Fixture, WHOLE, note};
-use crate::says::{Said, in_short, read};
+use crate::fixture::{CAPACITY, Fixture, Lent, WHOLE, holds, note, one_short};
+use crate::steps::{Reply, begun, read};
+use calls::{Answer, Refusal};
 use client::state::Client;
+use delivery::memory::Memory;
+use delivery::sizes::Sizes;
 use quorums::listed::Listed;
 use quorums::sets::ServerSet;
 use quorums::threshold::Threshold;
-use reading::reports::Report;
 use register::record::Register;
 use server::state::{Listener, Server};
 use std::test::*;
-use timestamps::Timestamp;
-use timestamps::packed::Packed;
-use values::Value;
-use values::total::Total;
 
-// Opens a register of two clients with so many entries of each slice lent: the refusal, and 0 where there is none.
-fn opening(fixture: &mut Fixture, lent: [usize; 5]) -> u8 {
-    let messages = fixture.messages;
-    let reports = fixture.reports;
-    let opened = Register::open(
+// Opens a register of two clients with so many entries of each kind lent.
+fn opening(fixture: &mut Fixture, sizes: Sizes) -> Result<(), Refusal> {
+    fixture.register = Register::open(
         fixture.register.system,
         2,
         CAPACITY,
-        &mut fixture.servers[0..lent[0].min(4)],
-        &mut fixture.clients[0..lent[1].min(2)],
-        &mut fixture.listeners[0..lent[2].min(8)],
-        &messages[0..lent[3].min(CAPACITY)],
-        &reports[0..lent[4].min(40)],
-    );
-    match opened {
-        Ok(register) => {
-            fixture.register = register;
-            0
-        }
-        Err(refusal) => u8::from(refusal),
-    }
+        &mut fixture.lent.part(sizes),
+    )?;
+    Ok(())
 }
 
 // A register in the midst of its work.
 fn used() -> Result<Fixture, Fail> {
-    let mut fixture = Fixture::new()?;
-    fixture.register.len = 5;
-    fixture.register.faulty = ServerSet { mask: 2 };
-    fixture.servers = [Server {
-        timestamp: Packed::new(64),
-        value: Total::new(10),
-    }; 4];
+    let Fixture { register, lent } = Fixture::new()?;
+    let mut fixture = Fixture {
+        register: Register {
+            len: 5,
+            faulty: ServerSet { mask: 2 },
+            ..register
+        },
+        lent: Lent {
+            servers: [holds(64, 10); 4],
+            ..lent
+        },
+    };
     fixture.asks(4, 64);
     fixture.listens_from(64);
     Ok(fixture)
@@ -54,16 +44,10 @@ fn used() -> Result<Fixture, Fail> {
 
 #[test]
 fn memory_one_entry_short_is_refused(rt: HostRuntime) -> Result<(), Fail> {
-    for lent in [
-        [3, 2, 8, 12, 40],
-        [4, 1, 8, 12, 40],
-        [4, 2, 7, 12, 40],
-        [4, 2, 8, 11, 40],
-        [4, 2, 8, 12, 39],
-    ] {
+    for sizes in one_short() {
         let mut fixture = used()?;
         let before = fixture;
-        assert_eq!(rt; opening(&mut fixture, lent), 4);
+        assert_eq!(rt; opening(&mut fixture, sizes), Err(Refusal::Memory));
         assert!(rt; fixture.is_like(&before));
     }
     Ok(())
@@ -72,100 +56,74 @@ fn memory_one_entry_short_is_refused(rt: HostRuntime) -> Result<(), Fail> {
 #[test]
 fn opened_register_is_new_and_leaves_messages_and_reports(rt: HostRuntime) -> Result<(), Fail> {
     let mut fixture = used()?;
-    assert_eq!(rt; opening(&mut fixture, WHOLE), 0);
-    let expected = Fixture::new()?;
-    assert!(rt; fixture.is_like(&expected));
+    assert_eq!(rt; opening(&mut fixture, WHOLE), Ok(()));
+    assert!(rt; fixture.is_like(&Fixture::new()?));
     Ok(())
 }
 
 // Opens a register of one server with memory for 65 clients and 4,097 messages; where it opens, makes a record of
 // these sizes and asks for a read of client 0.
-fn in_much_memory(m: usize, capacity: usize, later: (usize, usize)) -> Result<(u8, Said), Fail> {
-    let system = Threshold::open(1, 0)?;
-    let mut servers: [Server<Packed, Total>; 1] = [Server::initial(); 1];
-    let mut clients = [Client::initial(); 65];
-    let mut listeners = [Listener::silent(); 65];
-    let mut messages = [note(0, 0, 0, 0, 0, 0); 4097];
-    let mut reports = [Report::blank(); 130];
-    let opened = Register::open(
-        system,
-        m,
-        capacity,
-        &mut servers,
-        &mut clients,
-        &mut listeners,
-        &messages,
-        &reports,
-    );
-    let Ok(opened) = opened else {
-        return Ok((4, Said::Taken));
+fn in_much_memory(m: usize, capacity: usize, later: (usize, usize)) -> Result<Reply, Refusal> {
+    let mut memory = Memory {
+        servers: &mut [Server::initial(); 1],
+        clients: &mut [Client::initial(); 65],
+        listeners: &mut [Listener::silent(); 65],
+        messages: &mut [note(0, 0, 0, 0, 0, 0); 4097],
+        reports: &mut [None; 130],
     };
-    let mut register = opened;
-    register.clients = later.0;
-    register.capacity = later.1;
-    let answer = register.answer(
-        &mut servers,
-        &mut clients,
-        &mut listeners,
-        &mut messages,
-        &mut reports,
-        read(0),
-    );
-    Ok((0, in_short(answer)))
+    let opened = Register::open(Threshold::open(1, 0)?, m, capacity, &mut memory)?;
+    let mut register = Register {
+        clients: later.0,
+        capacity: later.1,
+        ..opened
+    };
+    Ok(register.answer(&mut memory, read(0)))
 }
 
 #[test]
 fn limits_hold_however_much_memory_there_is(rt: HostRuntime) -> Result<(), Fail> {
     for (m, capacity) in [(0, 1), (65, 1), (1, 0), (1, 4097), (0, 0), (65, 4097)] {
-        assert_eq!(rt; in_much_memory(m, capacity, (1, 1))?, (4, Said::Taken));
-        assert_eq!(rt; in_much_memory(1, 1, (m, capacity))?, (0, Said::Refused(4)));
-    }
-    for (m, capacity) in [(1, 1), (64, 4096), (1, 4096), (64, 1)] {
+        assert_eq!(rt; in_much_memory(m, capacity, (1, 1)), Err(Refusal::Memory));
         assert_eq!(rt;
-            in_much_memory(m, capacity, (m, capacity))?,
-            (0, Said::Begun(0, 1))
+            in_much_memory(1, 1, (m, capacity)),
+            Ok(Answer::Refused(Refusal::Memory))
         );
     }
+    for (m, capacity) in [(1, 1), (64, 4096), (1, 4096), (64, 1)] {
+        assert_eq!(rt; in_much_memory(m, capacity, (m, capacity)), Ok(begun(0, 1)));
+    }
     Ok(())
-}
-
-fn threshold(n: u8, f: u8) -> u8 {
-    match Threshold::open(n, f) {
-        Ok(_) => 0,
-        Err(refusal) => u8::from(refusal),
-    }
-}
-
-fn listed(n: u8, sets: &[ServerSet]) -> u8 {
-    match Listed::open(n, sets) {
-        Ok(_) => 0,
-        Err(refusal) => u8::from(refusal),
-    }
 }
 
 #[test]
-fn no_register_without_a_quorum_system(rt: HostRuntime) -> Result<(), Fail> {
+fn no_register_without_a_quorum_system(rt: HostRuntime) {
     for (n, f, refused) in [
-        (0, 0, 1),
-        (17, 5, 1),
-        (16, 6, 1),
-        (3, 1, 1),
-        (4, 1, 0),
-        (16, 5, 0),
+        (0, 0, Some(Refusal::SystemSize)),
+        (17, 5, Some(Refusal::SystemSize)),
+        (16, 6, Some(Refusal::SystemSize)),
+        (3, 1, Some(Refusal::SystemSize)),
+        (4, 1, None),
+        (16, 5, None),
     ] {
-        assert_eq!(rt; threshold(n, f), refused);
+        assert_eq!(rt; Threshold::open(n, f).err(), refused);
     }
     // each check with the next one failing too
-    assert_eq!(rt; listed(0, &[]), 1);
-    assert_eq!(rt; listed(17, &[]), 1);
-    assert_eq!(rt; listed(4, &[]), 2);
-    assert_eq!(rt; listed(4, &[ServerSet { mask: 0b11111 }]), 2);
-    assert_eq!(rt; listed(4, &[ServerSet { mask: 0b1111 }; 129]), 2);
+    let all = ServerSet { mask: 0b1111 };
+    let low = ServerSet { mask: 0b0011 };
+    let high = ServerSet { mask: 0b1100 };
+    let past = ServerSet { mask: 0b11111 };
+    assert_eq!(rt; Listed::open(0, &[]).err(), Some(Refusal::SystemSize));
+    assert_eq!(rt; Listed::open(17, &[]).err(), Some(Refusal::SystemSize));
+    assert_eq!(rt; Listed::open(4, &[]).err(), Some(Refusal::ListedSets));
+    assert_eq!(rt; Listed::open(4, &[past]).err(), Some(Refusal::ListedSets));
     assert_eq!(rt;
-        listed(4, &[ServerSet { mask: 0b0011 }, ServerSet { mask: 0b1100 }]),
-        3
+        Listed::open(4, &[all; 129]).err(),
+        Some(Refusal::ListedSets)
     );
-    assert_eq!(rt; listed(4, &[ServerSet { mask: 0b1111 }]), 3);
-    assert_eq!(rt; listed(4, &[ServerSet { mask: 0b0011 }]), 0);
-    Ok(())
+    assert_eq!(rt;
+        Listed::open(4, &[low, high]).err(),
+        Some(Refusal::SetsCover)
+    );
+    assert_eq!(rt; Listed::open(4, &[all]).err(), Some(Refusal::SetsCover));
+    assert_eq!(rt; Listed::open(4, &[low]).err(), None);
 }

@@ -1,37 +1,31 @@
 // What counts for a write, and how it ends.
-use crate::alike::{Alike, phase_in_numbers};
-use crate::fixture::{Fixture, note};
-use crate::says::{Said, deliver, write};
+use crate::alike::{is_same_client, is_same_phase};
+use crate::fixture::{ACK, Fixture, STORE, TS, VALUE, holds, note};
+use crate::steps::{begun, deliver, spent, write, wrote};
+use calls::{Answer, Refusal};
+use client::state::Phase;
+use quorums::sets::ServerSet;
 use std::test::*;
 use timestamps::packed::Packed;
-
-const TS: u8 = 2;
-
-const STORE: u8 = 3;
-
-const ACK: u8 = 4;
-
-const VALUE: u8 = 6;
+use values::total::Total;
 
 #[test]
 fn write_is_finished_with_the_third_ack(rt: HostRuntime) -> Result<(), Fail> {
     let mut fixture = Fixture::new()?;
-    assert_eq!(rt; fixture.ask(write(0)), Said::Begun(0, 1));
+    assert_eq!(rt; fixture.ask(write(0)), begun(0, 1));
     // four QUERYs, four TS, four STOREs and two ACKs, oldest first
     for _ in 0..14 {
-        assert_eq!(rt; fixture.ask(deliver(0)), Said::Taken);
+        assert_eq!(rt; fixture.ask(deliver(0)), Answer::Taken);
     }
-    assert_eq!(rt; fixture.ask(deliver(0)), Said::Wrote(0, 1, 64));
-    assert_eq!(rt; fixture.ask(deliver(0)), Said::Taken);
-    fixture.refuses(&rt, deliver(0), 10)?;
-    for server in 0..4 {
-        assert_eq!(rt; fixture.held(server), (64, 1250));
-    }
-    assert_eq!(rt; fixture.ask(write(1)), Said::Begun(1, 1));
+    assert_eq!(rt; fixture.ask(deliver(0)), wrote(0, 1, 64));
+    assert_eq!(rt; fixture.ask(deliver(0)), Answer::Taken);
+    fixture.refuses(&rt, deliver(0), Refusal::NoMessage);
+    assert_eq!(rt; fixture.lent.servers, [holds(64, 1250); 4]);
+    assert_eq!(rt; fixture.ask(write(1)), begun(1, 1));
     for _ in 0..14 {
-        assert_eq!(rt; fixture.ask(deliver(0)), Said::Taken);
+        assert_eq!(rt; fixture.ask(deliver(0)), Answer::Taken);
     }
-    assert_eq!(rt; fixture.ask(deliver(0)), Said::Wrote(1, 1, 65));
+    assert_eq!(rt; fixture.ask(deliver(0)), wrote(1, 1, 65));
     Ok(())
 }
 
@@ -49,13 +43,14 @@ fn ts_that_does_not_count_changes_no_client(rt: HostRuntime) -> Result<(), Fail>
     ] {
         let mut fixture = Fixture::new()?;
         fixture.asks(2, 0);
-        let before = fixture;
+        let before = fixture.first_client();
         assert_eq!(rt;
             fixture.hand(note(0, server, kind, number, 6400, 0)),
-            Said::Taken
+            Answer::Taken
         );
-        assert!(rt; fixture.client(0).is_like(&before.client(0)));
-        assert!(rt; fixture.register.len == 0);
+        let client = fixture.first_client();
+        assert!(rt; is_same_client(client, before));
+        assert_eq!(rt; fixture.register.len, 0);
     }
     Ok(())
 }
@@ -73,19 +68,21 @@ fn timestamp_is_the_next_above_the_highest_and_the_last(rt: HostRuntime) -> Resu
     ] {
         let mut fixture = Fixture::new()?;
         fixture.asks(2, last);
-        assert_eq!(rt; fixture.hand(note(0, 3, TS, 2, told, 0)), Said::Taken);
-        assert_eq!(rt; fixture.client(0).last.number, chosen);
-        assert_eq!(rt;
-            phase_in_numbers(fixture.client(0).phase),
-            (2, 1250, 0, chosen)
-        );
-        assert!(rt; fixture.register.len == 4);
+        assert_eq!(rt; fixture.hand(note(0, 3, TS, 2, told, 0)), Answer::Taken);
+        let storing = Phase::Storing {
+            timestamp: Packed::new(chosen),
+            value: Total::new(1250),
+            acknowledged: ServerSet { mask: 0 },
+        };
+        let client = fixture.first_client();
+        assert_eq!(rt; client.last, Packed::new(chosen));
+        assert!(rt; is_same_phase(client.phase, storing));
+        assert_eq!(rt; fixture.register.len, 4);
         for server in 0..4 {
-            fixture.holds(
-                &rt,
-                server as usize,
-                note(0, server, STORE, 2, chosen, 1250),
-            )?;
+            assert_eq!(rt;
+                fixture.message(server as usize),
+                Some(note(0, server, STORE, 2, chosen, 1250))
+            );
         }
     }
     Ok(())
@@ -103,12 +100,13 @@ fn write_with_no_timestamp_left_is_spent(rt: HostRuntime) -> Result<(), Fail> {
         let mut fixture = Fixture::new()?;
         fixture.asks(2, last);
         fixture.register.len = 11;
-        assert_eq!(rt; fixture.hand(note(0, 3, TS, 2, told, 0)), Said::Spent(0, 2));
-        assert!(rt; fixture.register.len == 11);
-        assert_eq!(rt; fixture.client(0).last.number, last);
-        assert_eq!(rt; phase_in_numbers(fixture.client(0).phase).0, 0);
+        assert_eq!(rt; fixture.hand(note(0, 3, TS, 2, told, 0)), spent(0, 2));
+        assert_eq!(rt; fixture.register.len, 11);
+        let client = fixture.first_client();
+        assert_eq!(rt; client.last, Packed::new(last));
+        assert!(rt; matches!(client.phase, Phase::Idle));
         fixture.register.len = 0;
-        assert_eq!(rt; fixture.ask(write(0)), Said::Begun(0, 3));
+        assert_eq!(rt; fixture.ask(write(0)), begun(0, 3));
     }
     Ok(())
 }
@@ -117,20 +115,20 @@ fn write_with_no_timestamp_left_is_spent(rt: HostRuntime) -> Result<(), Fail> {
 fn ack_counts_once_and_with_its_timestamp(rt: HostRuntime) -> Result<(), Fail> {
     let mut fixture = Fixture::new()?;
     fixture.asks(2, 0);
-    assert_eq!(rt; fixture.hand(note(0, 3, TS, 2, 0, 0)), Said::Taken);
+    assert_eq!(rt; fixture.hand(note(0, 3, TS, 2, 0, 0)), Answer::Taken);
     fixture.register.len = 0;
     // server, kind, number, timestamp, answer
     for (server, kind, number, timestamp, answer) in [
-        (0, ACK, 2, 128, Said::Taken),
-        (1, ACK, 2, 64, Said::Taken),
-        (1, ACK, 2, 192, Said::Taken),
-        (0, ACK, 2, 128, Said::Taken),
-        (1, ACK, 2, 128, Said::Taken),
-        (2, ACK, 1, 128, Said::Taken),
-        (2, TS, 2, 128, Said::Taken),
-        (2, VALUE, 2, 128, Said::Taken),
-        (3, ACK, 2, 128, Said::Wrote(0, 2, 128)),
-        (2, ACK, 2, 128, Said::Taken),
+        (0, ACK, 2, 128, Answer::Taken),
+        (1, ACK, 2, 64, Answer::Taken),
+        (1, ACK, 2, 192, Answer::Taken),
+        (0, ACK, 2, 128, Answer::Taken),
+        (1, ACK, 2, 128, Answer::Taken),
+        (2, ACK, 1, 128, Answer::Taken),
+        (2, TS, 2, 128, Answer::Taken),
+        (2, VALUE, 2, 128, Answer::Taken),
+        (3, ACK, 2, 128, wrote(0, 2, 128)),
+        (2, ACK, 2, 128, Answer::Taken),
     ] {
         assert_eq!(rt;
             fixture.hand(note(0, server, kind, number, timestamp, 0)),
