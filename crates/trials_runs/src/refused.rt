@@ -1,16 +1,18 @@
 // Runs that are not played: nothing is touched.
-use calls::{Answer, Call};
+use calls::{Answer, Call, Refusal};
 use client::state::{Client, Phase};
+use delivery::memory::Memory;
 use network::message::Message;
 use quorums::threshold::Threshold;
 use reading::reports::Report;
 use runs::play::play;
 use server::state::{Listener, Server};
+use std::process::Abort;
 use std::test::Fail;
 use timestamps::packed::Packed;
 use values::total::Total;
 
-// The memory of a register of one server and one client, and what is seen of it.
+// The memory of a register of one server and one client.
 #[derive(Clone, Copy)]
 struct Lent {
     servers: [Server<Packed, Total>; 1],
@@ -18,11 +20,10 @@ struct Lent {
     listeners: [Listener<Packed>; 1],
     messages: [Message<Packed, Total>; 1],
     reports: [Report<Packed, Total>; 2],
-    answers: [Answer<Packed, Total>; 2],
 }
 
 impl Lent {
-    // Every entry has a seven, and both answers are Forged.
+    // Every entry has a seven.
     fn new() -> Lent {
         let timestamp = Packed::new(7);
         let value = Total::new(7);
@@ -46,78 +47,57 @@ impl Lent {
                 timestamp,
                 value,
             }],
-            reports: [Report {
-                present: true,
-                timestamp,
-                value,
-            }; 2],
-            answers: [Answer::Forged; 2],
+            reports: [Some((timestamp, value)); 2],
         }
     }
 
-    // Plays two reads with so many answers lent: the refusal, and 0 where there is none.
-    fn play(&mut self, m: usize, capacity: usize, answers: usize) -> Result<u8, Fail> {
+    // Lends all of it.
+    fn memory(&mut self) -> Memory<'_, Packed, Total> {
+        let Lent {
+            servers,
+            clients,
+            listeners,
+            messages,
+            reports,
+        } = self;
+        Memory {
+            servers,
+            clients,
+            listeners,
+            messages,
+            reports,
+        }
+    }
+
+    // Plays two reads: the refusal, if there is one.
+    fn play(
+        &mut self,
+        m: usize,
+        capacity: usize,
+        answers: &mut [Answer<Packed, Total>],
+    ) -> Result<Option<Refusal>, Fail> {
         let system = Threshold::open(1, 0)?;
         let calls = [Call::Read { client: 0 }; 2];
-        let count = answers.min(2);
-        let played = play(
-            system,
-            m,
-            capacity,
-            &mut self.servers,
-            &mut self.clients,
-            &mut self.listeners,
-            &mut self.messages,
-            &mut self.reports,
-            &calls,
-            &mut self.answers[0..count],
-        );
-        match played {
-            Ok(_) => Ok(0),
-            Err(refusal) => Ok(u8::from(refusal)),
-        }
+        let played = play(system, m, capacity, &mut self.memory(), &calls, answers);
+        Ok(played.err())
     }
 
-    // What the memory of servers, clients and listeners has in numbers.
-    fn kept(&self) -> (u64, u64, u32, u64, u32, bool) {
-        (
-            self.servers[0].timestamp.number,
-            self.servers[0].value.pence,
-            self.clients[0].number,
-            self.clients[0].last.number,
-            self.listeners[0].number,
-            self.listeners[0].listening,
-        )
-    }
-
-    // What the messages and the reports have in numbers.
-    fn noted(&self) -> ((u8, u8, u8, u32), (u64, u64), (bool, u64, u64)) {
-        let message = self.messages[0];
-        let report = self.reports[1];
-        (
-            (message.client, message.server, message.kind, message.number),
-            (message.timestamp.number, message.value.pence),
-            (report.present, report.timestamp.number, report.value.pence),
-        )
-    }
-
-    // Which answers are Forged, as no read is answered.
-    fn forged(&self) -> [bool; 2] {
-        [is_forged(self.answers[0]), is_forged(self.answers[1])]
-    }
-}
-
-fn is_forged(answer: Answer<Packed, Total>) -> bool {
-    match answer {
-        Answer::Forged => true,
-        _ => false,
+    // All entries are those of another memory, and its client reads in both.
+    fn is(&self, rt: &impl Abort, other: &Lent) {
+        assert_eq!(rt; self.servers, other.servers);
+        assert_eq!(rt; self.clients[0].number, other.clients[0].number);
+        assert_eq!(rt; self.clients[0].last, other.clients[0].last);
+        assert!(rt; matches!(self.clients[0].phase, Phase::Reading));
+        assert_eq!(rt; self.listeners, other.listeners);
+        assert_eq!(rt; self.messages, other.messages);
+        assert_eq!(rt; self.reports, other.reports);
     }
 }
 
 #[test]
 fn refused_run_touches_nothing(rt: HostRuntime) -> Result<(), Fail> {
     // clients, capacity, answers that are lent for two calls
-    for (m, capacity, answers) in [
+    for (m, capacity, count) in [
         (1, 1, 1),
         (1, 1, 0),
         (0, 1, 2),
@@ -128,10 +108,13 @@ fn refused_run_touches_nothing(rt: HostRuntime) -> Result<(), Fail> {
     ] {
         let mut lent = Lent::new();
         let before = lent;
-        assert_eq!(rt; lent.play(m, capacity, answers)?, 4);
-        assert_eq!(rt; lent.kept(), before.kept());
-        assert_eq!(rt; lent.noted(), before.noted());
-        assert_eq!(rt; lent.forged(), [true; 2]);
+        let mut answers = [Answer::Forged; 2];
+        assert_eq!(rt;
+            lent.play(m, capacity, &mut answers[..count])?,
+            Some(Refusal::Memory)
+        );
+        lent.is(&rt, &before);
+        assert_eq!(rt; answers, [Answer::Forged; 2]);
     }
     Ok(())
 }
@@ -139,10 +122,36 @@ fn refused_run_touches_nothing(rt: HostRuntime) -> Result<(), Fail> {
 #[test]
 fn played_run_has_all_its_answers(rt: HostRuntime) -> Result<(), Fail> {
     let mut lent = Lent::new();
-    assert_eq!(rt; lent.play(1, 1, 2)?, 0);
-    assert_eq!(rt; lent.forged(), [false; 2]);
-    assert_eq!(rt; lent.kept(), (0, 0, 1, 0, 0, false));
-    // READ of client 0
-    assert_eq!(rt; lent.noted(), ((0, 0, 5, 1), (0, 0), (false, 0, 0)));
+    let mut answers = [Answer::Forged; 2];
+    assert_eq!(rt; lent.play(1, 1, &mut answers)?, None);
+    assert!(rt; !answers.contains(&Answer::Forged));
+    let timestamp = Packed::new(0);
+    let value = Total::new(0);
+    lent.is(
+        &rt,
+        &Lent {
+            servers: [Server { timestamp, value }],
+            clients: [Client {
+                number: 1,
+                last: timestamp,
+                phase: Phase::Reading,
+            }],
+            listeners: [Listener {
+                number: 0,
+                listening: false,
+                start: timestamp,
+            }],
+            // READ of client 0
+            messages: [Message {
+                client: 0,
+                server: 0,
+                kind: 5,
+                number: 1,
+                timestamp,
+                value,
+            }],
+            reports: [None; 2],
+        },
+    );
     Ok(())
 }
