@@ -3,9 +3,9 @@ use crate::script::Step;
 use crate::words::{AnswerInWords, CallInWords};
 use calls::Answer;
 use client::state::Client;
+use delivery::memory::Memory;
 use network::message::Message;
 use quorums::threshold::Threshold;
-use reading::reports::Report;
 use runs::play::play;
 use server::state::{Listener, Server};
 use timestamps::Timestamp;
@@ -32,24 +32,15 @@ fn blank() -> Message<Packed, Total> {
 // Plays the calls on a register of four servers, one of which may be faulty, and tells them with their answers.
 pub(crate) fn perform(rt: &HostRuntime, calls: &[Step]) -> anyhow::Result<()> {
     let system = Threshold::open(4, 1)?;
-    let mut servers = [Server::initial(); 4];
-    let mut clients = [Client::initial(); CLIENTS];
-    let mut listeners = [Listener::silent(); 8];
-    let mut messages = [blank(); CAPACITY];
-    let mut reports = [Report::blank(); 40];
+    let mut memory = Memory {
+        servers: &mut [Server::initial(); 4],
+        clients: &mut [Client::initial(); CLIENTS],
+        listeners: &mut [Listener::silent(); 8],
+        messages: &mut [blank(); CAPACITY],
+        reports: &mut [None; 40],
+    };
     let mut answers = vec![in rt.alloc(); Answer::Taken; calls.len()]?;
-    play(
-        system,
-        CLIENTS,
-        CAPACITY,
-        &mut servers,
-        &mut clients,
-        &mut listeners,
-        &mut messages,
-        &mut reports,
-        calls,
-        &mut answers,
-    )?;
+    play(system, CLIENTS, CAPACITY, &mut memory, calls, &mut answers)?;
     tell(rt, calls, &answers)
 }
 

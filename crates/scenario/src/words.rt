@@ -12,16 +12,10 @@ pub struct CallInWords(pub Call<Packed, Total>);
 pub struct AnswerInWords(pub Answer<Packed, Total>);
 
 // The name of the kind that a byte stands for.
-fn name_of(kind: u8) -> &'static str {
+fn write_kind<W: fmt::Write>(kind: u8, f: &mut fmt::Formatter<W>) -> fmt::Result {
     match Kind::try_from(kind) {
-        Ok(Kind::Query) => "QUERY",
-        Ok(Kind::Ts) => "TS",
-        Ok(Kind::Store) => "STORE",
-        Ok(Kind::Ack) => "ACK",
-        Ok(Kind::Read) => "READ",
-        Ok(Kind::Value) => "VALUE",
-        Ok(Kind::Stop) => "STOP",
-        Err(_) => "no kind",
+        Ok(kind) => write!(f, "{kind}"),
+        Err(unknown) => write!(f, "{unknown}"),
     }
 }
 
@@ -29,8 +23,7 @@ impl fmt::Display for CallInWords {
     fn fmt<W: fmt::Write>(&self, f: &mut fmt::Formatter<W>) -> fmt::Result {
         match self.0 {
             Call::Write { client, value } => {
-                let total = value.pence;
-                write!(f, "write {total} by client {client}")
+                write!(f, "write {} by client {client}", value.pence)
             }
             Call::Read { client } => write!(f, "read by client {client}"),
             Call::Deliver { place } => write!(f, "deliver place {place}"),
@@ -43,12 +36,12 @@ impl fmt::Display for CallInWords {
                 timestamp,
                 value,
             } => {
-                let name = name_of(kind);
-                let stamp = timestamp.number;
-                let total = value.pence;
+                write!(f, "forge ")?;
+                write_kind(kind, f)?;
                 write!(
                     f,
-                    "forge {name} {number} of server {server} to client {client} with timestamp {stamp} and total {total}"
+                    " {number} of server {server} to client {client} with timestamp {} and total {}",
+                    timestamp.number, value.pence
                 )
             }
         }
@@ -65,10 +58,10 @@ impl fmt::Display for AnswerInWords {
                 number,
                 timestamp,
             } => {
-                let stamp = timestamp.number;
                 write!(
                     f,
-                    "write {number} of client {client} finished with timestamp {stamp}"
+                    "write {number} of client {client} finished with timestamp {}",
+                    timestamp.number
                 )
             }
             Answer::FinishedRead {
@@ -77,11 +70,10 @@ impl fmt::Display for AnswerInWords {
                 timestamp,
                 value,
             } => {
-                let stamp = timestamp.number;
-                let total = value.pence;
                 write!(
                     f,
-                    "read {number} of client {client} finished with timestamp {stamp} and total {total}"
+                    "read {number} of client {client} finished with timestamp {} and total {}",
+                    timestamp.number, value.pence
                 )
             }
             Answer::Spent { client, number } => write!(
