@@ -50,7 +50,7 @@ impl<S: Timestamp, V: Value> Client<S, V> {
         if self.number >= MOST_OPERATIONS {
             return Err(Refusal::NumbersUsedUp);
         }
-        if room < system.servers() as usize {
+        if room < usize::from(system.servers()) {
             return Err(Refusal::NetworkFull);
         }
         Ok(())

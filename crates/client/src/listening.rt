@@ -97,7 +97,7 @@ fn hear_within<Q: QuorumSystem, S: Timestamp, V: Value>(
 ) -> Result<Option<(S, V)>, Refusal>
     ensures { Within (rules_of Q.QuorumSystem S.Timestamp V.Value system.now) (S.lowest, V.initial_value) room part.old message.server message.timestamp message.value result part.new }
 {
-    if room >= system.servers() as usize {
+    if room >= usize::from(system.servers()) {
         return Ok(hear(
             system,
             part,

@@ -35,7 +35,7 @@ impl<S: Timestamp, V: Value> Broadcast<S, V> {
     ) -> Result<(), Refusal>
         ensures { Dispatched n client self network.old memory.old result network.new memory.new }
     {
-        network.admits(memory.len(), n as usize)?;
+        network.admits(memory.len(), usize::from(n))?;
         self.send_all(network, memory, n, client);
         Ok(())
     }

@@ -21,7 +21,7 @@ impl<S: Timestamp, V: Value> Outcome<S, V> {
     fn within<Q: QuorumSystem>(self, system: &Q, room: usize) -> Result<Outcome<S, V>, Refusal>
         ensures { Fitting (Q.size system.now) room self result }
     {
-        if self.broadcast.is_some() && system.servers() as usize > room {
+        if self.broadcast.is_some() && usize::from(system.servers()) > room {
             return Err(Refusal::NetworkFull);
         }
         Ok(self)

@@ -31,10 +31,7 @@ pub fn is_from_server(kind: Kind) -> bool
 fn kind_named<S: Copy, V: Copy>(message: &Message<S, V>, n: u8, m: usize) -> Option<Kind>
     ensures { result ≡ kind_named n m message.now }
 {
-    if message.client as usize >= m {
-        return None;
-    }
-    if message.server >= n {
+    if message.client as usize >= m || message.server >= n {
         return None;
     }
     Kind::try_from(message.kind).ok()

@@ -62,7 +62,7 @@ impl Network {
     ) -> Result<(Message<S, V>, Token), Refusal>
         ensures { Taken self.old memory.now place result self.new }
     {
-        self.is_whole(memory.len())?;
+        self.check_whole(memory.len())?;
         if place >= self.len {
             return Err(Refusal::NoMessage);
         }
@@ -116,7 +116,7 @@ impl Network {
     pub fn admits(&self, room: usize, sending: usize) -> Result<(), Refusal>
         ensures { result ≡ passed (first_failed (send_checks self.now room sending)) }
     {
-        self.is_whole(room)?;
+        self.check_whole(room)?;
         if sending > self.capacity - self.len {
             return Err(Refusal::NetworkFull);
         }
@@ -124,7 +124,7 @@ impl Network {
     }
 
     // Whether the record goes with a memory of so many messages, and none is lifted.
-    fn is_whole(&self, room: usize) -> Result<(), Refusal>
+    fn check_whole(&self, room: usize) -> Result<(), Refusal>
         ensures { result ≡ passed (first_failed (whole_checks self.now room)) }
     {
         if !self.fits(room) {
@@ -159,7 +159,7 @@ fn below(place: Option<usize>, len: usize) -> bool
 }
 
 // The message at a place.
-// Kept: a record in lent memory is read field by field.
+// Kept: by a rule of this project messages and listeners in lent memory are read field by field.
 fn message_at<S: Copy, V: Copy>(memory: &[Message<S, V>], place: usize) -> Message<S, V>
     requires { place < length memory.now }
     ensures { result ≡ slice_index_or memory.now place result }

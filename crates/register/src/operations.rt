@@ -87,13 +87,8 @@ impl<Q: QuorumSystem> Register<Q> {
         self.check_memory(memory)?;
         self.check_client(client)?;
         let room = self.room();
-        let (answer, broadcast) = begin_write_at(
-            &self.system,
-            memory.clients,
-            client,
-            value,
-            room,
-        )?;
+        let begun = begin_write_at(&self.system, memory.clients, client, value, room)?;
+        let (answer, broadcast) = begun;
         self.send(memory.messages, client, broadcast);
         Ok(answer)
     }
@@ -125,13 +120,8 @@ impl<Q: QuorumSystem> Register<Q> {
         self.check_memory(memory)?;
         self.check_client(client)?;
         let room = self.room();
-        let (answer, broadcast) = begin_read_at(
-            &self.system,
-            memory.clients,
-            memory.reports,
-            client,
-            room,
-        )?;
+        let begun = begin_read_at(&self.system, memory.clients, memory.reports, client, room)?;
+        let (answer, broadcast) = begun;
         self.send(memory.messages, client, broadcast);
         Ok(answer)
     }

@@ -28,7 +28,7 @@ fn number_above(client: u8, top: u64) -> Option<u64>
     if client >= 64 {
         return None;
     }
-    let number = top - top % 64 + client as u64;
+    let number = top - top % 64 + u64::from(client);
     if top < number {
         Some(number)
     } else {

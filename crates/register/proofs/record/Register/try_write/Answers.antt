@@ -14,8 +14,8 @@ use Rattle.register.proofs.Enough.{parts}
 use Rattle.register.proofs.Begins.{begin_refused, begin_room, begun}
 use Rattle.register.proofs.record.Register.try_write.Goals as goal
 
-pub returns-in_err-answer-clause-answers : goal.returns-in_err-answer-clause-answers
-returns-in_err-answer-clause-answers g c =
+pub returns-in_err-begun-clause-answers : goal.returns-in_err-begun-clause-answers
+returns-in_err-begun-clause-answers g c =
     let h = c.args.self.now in
     let K = kinds g.Q.QuorumSystem g.S.Timestamp g.V.Value h in
     let x = contents c.args.memory.now in
@@ -26,11 +26,11 @@ returns-in_err-answer-clause-answers g c =
     let n = K.rules.n in
     let p = parts K h.len x much in
     let ends : u * (n * (n + 1)) + n * (n + 1) ≤ length x.reports = (let e = part_end u h.clients (n * (n + 1)) inside in omega (arith, e, p.for_reports)) in
-    let b = c.in_err-answer.ensures h.clients h.capacity 4294967295 x.reports inside ends in
-    let e = c.in_err-answer.field-0.0 in
+    let b = c.in_err-begun.ensures h.clients h.capacity 4294967295 x.reports inside ends in
+    let e = c.in_err-begun.field-0.0 in
     let x' = lent x.servers c.begin_write_at.new.clients x.listeners x.messages x.reports in
     let P : Answer g.row.S.Denot g.row.V.Denot → Type 0 = λ a. Answers K h x (Write u c.args.value) a h x' in
-    subst P (sym (refused_as c.from_residual-in_err-answer.result e c.from_residual-in_err-answer.ensures.1))
+    subst P (sym (refused_as c.from_residual-in_err-begun.result e c.from_residual-in_err-begun.ensures.1))
     (begin_refused K h x much refl u inside (begins_write K u was c.args.value) c.begin_write_at.new.clients x.reports e
     (ap (client_refuses K was) (sym c.room-room.ensures) ∙ b.0) b.1 refl)
 
@@ -46,8 +46,8 @@ send-requires g c =
     let n = K.rules.n in
     let p = parts K h.len x much in
     let ends : u * (n * (n + 1)) + n * (n + 1) ≤ length x.reports = (let e = part_end u h.clients (n * (n + 1)) inside in omega (arith, e, p.for_reports)) in
-    let b = c.in_ok-answer.ensures h.clients h.capacity 4294967295 x.reports inside ends in
-    begin_room K h x much refl u inside (begins_write K u was c.args.value) x.clients x.reports (ap (client_refuses K was) (sym c.room-room.ensures) ∙ b.0) c.in_ok-answer.broadcast refl
+    let b = c.in_ok-begun.ensures h.clients h.capacity 4294967295 x.reports inside ends in
+    begin_room K h x much refl u inside (begins_write K u was c.args.value) x.clients x.reports (ap (client_refuses K was) (sym c.room-room.ensures) ∙ b.0) c.in_ok-begun.begun.1 refl
 
 pub returns-clause-answers : goal.returns-clause-answers
 returns-clause-answers g c =
@@ -61,6 +61,6 @@ returns-clause-answers g c =
     let n = K.rules.n in
     let p = parts K h.len x much in
     let ends : u * (n * (n + 1)) + n * (n + 1) ≤ length x.reports = (let e = part_end u h.clients (n * (n + 1)) inside in omega (arith, e, p.for_reports)) in
-    let b = c.in_ok-answer.ensures h.clients h.capacity 4294967295 x.reports inside ends in
+    let b = c.in_ok-begun.ensures h.clients h.capacity 4294967295 x.reports inside ends in
     begun K h x much refl u inside (begins_write K u was c.args.value) c.begin_write_at.new.clients x.reports _ refl (ap (client_refuses K was) (sym c.room-room.ensures) ∙ b.0)
-    (c.in_ok-answer.answer, c.in_ok-answer.broadcast) b.1 c.send.new.self c.send.new.messages refl c.send.ensures.record c.send.ensures.sent c.begin_write_at.auto.clients refl refl
+    c.in_ok-begun.begun b.1 c.send.new.self c.send.new.messages refl c.send.ensures.record c.send.ensures.sent c.begin_write_at.auto.clients refl refl
