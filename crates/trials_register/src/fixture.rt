@@ -122,8 +122,8 @@ pub struct Lent {
 }
 
 impl Lent {
-    // Lends all of it.
-    pub(crate) fn memory(&mut self) -> Memory<'_, Packed, Total> {
+    // Lends so many entries of each kind.
+    pub(crate) fn memory(&mut self, sizes: Sizes) -> Memory<'_, Packed, Total> {
         let Lent {
             servers,
             clients,
@@ -131,24 +131,6 @@ impl Lent {
             messages,
             reports,
         } = self;
-        Memory {
-            servers,
-            clients,
-            listeners,
-            messages,
-            reports,
-        }
-    }
-
-    // Lends so many entries of each kind.
-    pub(crate) fn part(&mut self, sizes: Sizes) -> Memory<'_, Packed, Total> {
-        let Memory {
-            servers,
-            clients,
-            listeners,
-            messages,
-            reports,
-        } = self.memory();
         Memory {
             servers: first(servers, sizes.servers),
             clients: first(clients, sizes.clients),
@@ -208,11 +190,11 @@ impl Fixture {
 
     // Answers a call, with so many entries of each kind lent.
     pub(crate) fn ask_with(&mut self, sizes: Sizes, call: Step) -> Reply {
-        self.register.answer(&mut self.lent.part(sizes), call)
+        self.register.answer(&mut self.lent.memory(sizes), call)
     }
 
     pub(crate) fn ask(&mut self, call: Step) -> Reply {
-        self.register.answer(&mut self.lent.memory(), call)
+        self.ask_with(WHOLE, call)
     }
 
     // A call is refused, and nothing changes.

@@ -18,7 +18,7 @@ fn opening(fixture: &mut Fixture, sizes: Sizes) -> Result<(), Refusal> {
         fixture.register.system,
         2,
         CAPACITY,
-        &mut fixture.lent.part(sizes),
+        &mut fixture.lent.memory(sizes),
     )?;
     Ok(())
 }
