@@ -4,7 +4,7 @@ use network::message::Kind;
 use quorums::sets::ServerSet;
 
 // What the client is about. What a reading client knows stands in its reports.
-#[derive(Clone, Copy)]
+#[derive(Clone, Copy, PartialEq, Eq, Debug)]
 pub enum Phase<S, V> {
     Idle,
     Asking {
@@ -21,7 +21,7 @@ pub enum Phase<S, V> {
 }
 
 // The number of the last operation, the last timestamp chosen, and the phase.
-#[derive(Clone, Copy)]
+#[derive(Clone, Copy, PartialEq, Eq, Debug)]
 pub struct Client<S, V> {
     pub number: u32,
     pub last: S,

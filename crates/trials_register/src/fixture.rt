@@ -1,5 +1,4 @@
 // A register of four servers, one of which may be faulty, and two clients, and what is seen of it.
-use crate::alike::is_same_client;
 use crate::steps::{Reply, Step, deliver};
 use calls::{Answer, Refusal};
 use client::state::{Client, Phase};
@@ -112,7 +111,7 @@ fn first<T>(entries: &mut [T], count: usize) -> &mut [T] {
 }
 
 // The memory of the register.
-#[derive(Clone, Copy)]
+#[derive(Clone, Copy, PartialEq, Eq, Debug)]
 pub struct Lent {
     pub servers: [Server<Packed, Total>; 4],
     pub clients: [Client<Packed, Total>; 2],
@@ -138,19 +137,6 @@ impl Lent {
             messages: first(messages, sizes.messages),
             reports: first(reports, sizes.reports),
         }
-    }
-
-    // Whether all entries are the same.
-    pub(crate) fn is_like(&self, other: &Lent) -> bool {
-        self.servers == other.servers
-            && self
-                .clients
-                .iter()
-                .zip(other.clients.iter())
-                .all(|(a, b)| is_same_client(*a, *b))
-            && self.listeners == other.listeners
-            && self.messages == other.messages
-            && self.reports == other.reports
     }
 }
 
@@ -180,12 +166,15 @@ impl Fixture {
         Ok(Fixture { register, lent })
     }
 
-    // Whether record and memory are the same.
-    pub(crate) fn is_like(&self, other: &Fixture) -> bool {
+    // Record and memory are the same.
+    pub(crate) fn is(&self, rt: &impl Abort, other: &Fixture) {
         let a = &self.register;
         let b = &other.register;
-        (a.clients, a.capacity, a.len, a.faulty) == (b.clients, b.capacity, b.len, b.faulty)
-            && self.lent.is_like(&other.lent)
+        assert_eq!(rt;
+            (a.clients, a.capacity, a.len, a.faulty),
+            (b.clients, b.capacity, b.len, b.faulty)
+        );
+        assert_eq!(rt; self.lent, other.lent);
     }
 
     // Answers a call, with so many entries of each kind lent.
@@ -201,7 +190,7 @@ impl Fixture {
     pub(crate) fn refuses(&mut self, rt: &impl Abort, call: Step, refusal: Refusal) {
         let before = *self;
         assert_eq!(rt; self.ask(call), Answer::Refused(refusal));
-        assert!(rt; self.is_like(&before));
+        self.is(rt, &before);
     }
 
     // Puts a message behind the others, and delivers it.

@@ -1,5 +1,4 @@
 // Records and memory of any content: each call answers, and a refusal changes nothing.
-use crate::alike::{is_same_client, is_same_phase};
 use crate::fixture::{CAPACITY, Fixture, Lent, STORE, TS, VALUE, holds, note};
 use crate::steps::{Step, begun, deliver, forge, found, read, turn, write};
 use calls::Answer;
@@ -65,7 +64,7 @@ fn is_answered(rt: &impl Abort, before: &Fixture, call: Step) {
     let mut fixture = *before;
     if let Answer::Refused(refusal) = fixture.ask(call) {
         assert!(rt; (1..14).contains(&u8::from(refusal)));
-        assert!(rt; fixture.is_like(before));
+        fixture.is(rt, before);
     } else {
         assert!(rt; fixture.register.len <= CAPACITY);
     }
@@ -136,8 +135,7 @@ fn servers_past_the_last_do_not_count(rt: HostRuntime) -> Result<(), Fail> {
         value: Total::new(10),
         acknowledged: ServerSet { mask: 0 },
     };
-    let client = fixture.first_client();
-    assert!(rt; is_same_phase(client.phase, storing));
+    assert_eq!(rt; fixture.first_client().phase, storing);
     assert_eq!(rt; fixture.message(0), Some(note(0, 0, STORE, 7, 128, 10)));
     Ok(())
 }
@@ -149,8 +147,7 @@ fn a_read_forgets_what_the_memory_held(rt: HostRuntime) -> Result<(), Fail> {
     assert_eq!(rt; fixture.ask(read(1)), begun(1, 1));
     // the reports of the other client stay
     assert_eq!(rt; &fixture.lent.reports[..20], &before.lent.reports[..20]);
-    let client = fixture.first_client();
-    assert!(rt; is_same_client(client, before.first_client()));
+    assert_eq!(rt; fixture.first_client(), before.first_client());
     for server in 0..2 {
         assert_eq!(rt;
             fixture.hand(note(1, server, VALUE, 1, 64, 10)),

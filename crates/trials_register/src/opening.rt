@@ -48,7 +48,7 @@ fn memory_one_entry_short_is_refused(rt: HostRuntime) -> Result<(), Fail> {
         let mut fixture = used()?;
         let before = fixture;
         assert_eq!(rt; opening(&mut fixture, sizes), Err(Refusal::Memory));
-        assert!(rt; fixture.is_like(&before));
+        fixture.is(&rt, &before);
     }
     Ok(())
 }
@@ -57,7 +57,7 @@ fn memory_one_entry_short_is_refused(rt: HostRuntime) -> Result<(), Fail> {
 fn opened_register_is_new_and_leaves_messages_and_reports(rt: HostRuntime) -> Result<(), Fail> {
     let mut fixture = used()?;
     assert_eq!(rt; opening(&mut fixture, WHOLE), Ok(()));
-    assert!(rt; fixture.is_like(&Fixture::new()?));
+    fixture.is(&rt, &Fixture::new()?);
     Ok(())
 }
 

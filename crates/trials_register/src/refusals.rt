@@ -27,7 +27,7 @@ fn lacks_memory(
             fixture.ask_with(sizes, call),
             Answer::Refused(Refusal::Memory)
         );
-        assert!(rt; fixture.is_like(&before));
+        fixture.is(rt, &before);
     }
     Ok(())
 }
@@ -125,7 +125,7 @@ fn turn_checks_the_server_then_the_faulty_servers(rt: HostRuntime) -> Result<(),
     let before = fixture;
     assert_eq!(rt; before.register.faulty, ServerSet { mask: 0b1000 });
     assert_eq!(rt; fixture.ask(turn(3)), Answer::Turned);
-    assert!(rt; fixture.is_like(&before));
+    fixture.is(&rt, &before);
     Ok(())
 }
 

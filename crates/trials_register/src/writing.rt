@@ -1,5 +1,4 @@
 // What counts for a write, and how it ends.
-use crate::alike::{is_same_client, is_same_phase};
 use crate::fixture::{ACK, Fixture, STORE, TS, VALUE, holds, note};
 use crate::steps::{begun, deliver, spent, write, wrote};
 use calls::{Answer, Refusal};
@@ -48,8 +47,7 @@ fn ts_that_does_not_count_changes_no_client(rt: HostRuntime) -> Result<(), Fail>
             fixture.hand(note(0, server, kind, number, 6400, 0)),
             Answer::Taken
         );
-        let client = fixture.first_client();
-        assert!(rt; is_same_client(client, before));
+        assert_eq!(rt; fixture.first_client(), before);
         assert_eq!(rt; fixture.register.len, 0);
     }
     Ok(())
@@ -76,7 +74,7 @@ fn timestamp_is_the_next_above_the_highest_and_the_last(rt: HostRuntime) -> Resu
         };
         let client = fixture.first_client();
         assert_eq!(rt; client.last, Packed::new(chosen));
-        assert!(rt; is_same_phase(client.phase, storing));
+        assert_eq!(rt; client.phase, storing);
         assert_eq!(rt; fixture.register.len, 4);
         for server in 0..4 {
             assert_eq!(rt;
@@ -104,7 +102,7 @@ fn write_with_no_timestamp_left_is_spent(rt: HostRuntime) -> Result<(), Fail> {
         assert_eq!(rt; fixture.register.len, 11);
         let client = fixture.first_client();
         assert_eq!(rt; client.last, Packed::new(last));
-        assert!(rt; matches!(client.phase, Phase::Idle));
+        assert_eq!(rt; client.phase, Phase::Idle);
         fixture.register.len = 0;
         assert_eq!(rt; fixture.ask(write(0)), begun(0, 3));
     }

@@ -7,13 +7,12 @@ use quorums::threshold::Threshold;
 use reading::reports::Report;
 use runs::play::play;
 use server::state::{Listener, Server};
-use std::process::Abort;
 use std::test::Fail;
 use timestamps::packed::Packed;
 use values::total::Total;
 
 // The memory of a register of one server and one client.
-#[derive(Clone, Copy)]
+#[derive(Clone, Copy, PartialEq, Eq, Debug)]
 struct Lent {
     servers: [Server<Packed, Total>; 1],
     clients: [Client<Packed, Total>; 1],
@@ -81,17 +80,6 @@ impl Lent {
         let played = play(system, m, capacity, &mut self.memory(), &calls, answers);
         Ok(played.err())
     }
-
-    // All entries are those of another memory, and its client reads in both.
-    fn is(&self, rt: &impl Abort, other: &Lent) {
-        assert_eq!(rt; self.servers, other.servers);
-        assert_eq!(rt; self.clients[0].number, other.clients[0].number);
-        assert_eq!(rt; self.clients[0].last, other.clients[0].last);
-        assert!(rt; matches!(self.clients[0].phase, Phase::Reading));
-        assert_eq!(rt; self.listeners, other.listeners);
-        assert_eq!(rt; self.messages, other.messages);
-        assert_eq!(rt; self.reports, other.reports);
-    }
 }
 
 #[test]
@@ -113,7 +101,7 @@ fn refused_run_touches_nothing(rt: HostRuntime) -> Result<(), Fail> {
             lent.play(m, capacity, &mut answers[..count])?,
             Some(Refusal::Memory)
         );
-        lent.is(&rt, &before);
+        assert_eq!(rt; lent, before);
         assert_eq!(rt; answers, [Answer::Forged; 2]);
     }
     Ok(())
@@ -127,9 +115,9 @@ fn played_run_has_all_its_answers(rt: HostRuntime) -> Result<(), Fail> {
     assert!(rt; !answers.contains(&Answer::Forged));
     let timestamp = Packed::new(0);
     let value = Total::new(0);
-    lent.is(
-        &rt,
-        &Lent {
+    assert_eq!(rt;
+        lent,
+        Lent {
             servers: [Server { timestamp, value }],
             clients: [Client {
                 number: 1,
@@ -151,7 +139,7 @@ fn played_run_has_all_its_answers(rt: HostRuntime) -> Result<(), Fail> {
                 value,
             }],
             reports: [None; 2],
-        },
+        }
     );
     Ok(())
 }
