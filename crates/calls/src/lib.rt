@@ -108,6 +108,7 @@ impl<S, V> From<Result<Answer<S, V>, Refusal>> for Answer<S, V> {
     ghost from_gives = { λ outcome answer. answer ≡ answer_of outcome };
 
     fn from(outcome: Result<Answer<S, V>, Refusal>) -> Answer<S, V> {
+        // Kept: a match, since unwrap_or_else with the variant as a function has no proof rule.
         match outcome {
             Ok(answer) => answer,
             Err(refusal) => Answer::Refused(refusal),

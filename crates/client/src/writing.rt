@@ -85,6 +85,7 @@ impl<S: Timestamp, V: Value> Client<S, V> {
         }
     }
 
+    // Kept: a phase's fields one by one, since a struct for each phase would be made and taken apart at each step.
     // These servers told their timestamps, of which this is the highest: once they are a quorum, the write goes on.
     fn asked<Q: QuorumSystem>(
         &self,

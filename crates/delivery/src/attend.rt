@@ -12,6 +12,8 @@ use timestamps::Timestamp;
 use values::Value;
 
 // Lends the client of a message, and its own reports, for the message.
+// Kept: the part is cut by its places, since a function that returned it would owe a clause on what becomes of the loan;
+// and with `as`, since with usize::from the proofs of the bounds did not close.
 pub(crate) fn attend<Q: QuorumSystem, S: Timestamp, V: Value>(
     system: &Q,
     clients: &mut [Client<S, V>],

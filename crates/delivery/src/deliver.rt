@@ -108,7 +108,8 @@ fn hand_over<Q: QuorumSystem, S: Timestamp, V: Value>(
 
 // Delivers the message at a place of the queue: it is taken out, handed to its server or its client, and
 // followed by what they send. A refusal leaves all as it was.
-// Kept: the parts of a register one by one, since its record and the other calls lie in the crate above.
+// Kept: the parts one by one, since the struct of them is the register's record, whose calls lie in the crate above, and a
+// second struct of the same fields would be no plainer.
 pub fn deliver<Q: QuorumSystem, S: Timestamp, V: Value>(
     system: &Q,
     m: usize,

@@ -38,7 +38,7 @@ module _ {S V : Type 0} (K : Setting S V) where
   BegunAt clients reports c o room (Err e) clients' reports' =
       (client_refuses (clients_in K K.client_count clients reports c) room ≡ Some e) × (clients' ≡ clients) × (reports' ≡ reports)
 
-  -- a client's reports are all blank, and the others as they were
+  -- a client's reports are all none, and the others as they were
   pub record BlankFor (c : ℕ) (reports reports' : List (Report S V)) : Type 0 where
     pub only : OnlyOf K c reports reports'
     pub own : part (report_count K) reports' c ≡ replicate (report_count K) None

@@ -45,7 +45,7 @@ module _ {Q S V : Type 0} (K : Setting S V) where
   abbrev pub Answers : Register Q → Lent S V → Call S V → Answer S V → Register Q → Lent S V → Type 0
   Answers g x call r g' x' = Replied g x (step K (state_of g x) call) r g' x'
 
-  -- a read begins: where it is answered with its number, the client's reports are all blank
+  -- a read begins: where it is answered with its number, the client's reports are all none
   pub record ReadAnswers (g : Register Q) (x : Lent S V) (c : ℕ) (r : Answer S V) (g' : Register Q) (x' : Lent S V) : Type 0 where
     pub answers : Answers g x (Read c) r g' x'
     pub reports_after : (k : ℕ) → r ≡ Begun c k → BlankFor K c x.reports x'.reports

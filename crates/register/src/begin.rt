@@ -28,6 +28,7 @@ pub(crate) fn begin_write_at<Q: QuorumSystem, S: Timestamp, V: Value>(
 }
 
 // Lends the client and its own reports for a read.
+// Kept: beside the write's, since only a read lends reports; cut by places and with `as`, as for a delivery.
 pub(crate) fn begin_read_at<Q: QuorumSystem, S: Timestamp, V: Value>(
     system: &Q,
     clients: &mut [Client<S, V>],

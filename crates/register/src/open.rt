@@ -15,6 +15,7 @@ use timestamps::Timestamp;
 use values::Value;
 
 // The first entries of a memory become this value.
+// Kept: a loop, since std's fill asks that a clone cannot fail, which no type parameter says.
 fn reset<T: Copy>(memory: &mut [T], count: usize, value: T)
     requires { count ≤ length memory.old }
     ensures { memory.new ≡ replicate count value ++ drop count memory.old }

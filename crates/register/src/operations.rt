@@ -72,6 +72,7 @@ impl<Q: QuorumSystem> Register<Q> {
         Answer::from(self.try_write(memory, client, value))
     }
 
+    // Kept: a function beside the call, since ? needs a Result and a run takes an Answer of each call.
     fn try_write<S: Timestamp, V: Value>(
         &mut self,
         memory: &mut Memory<'_, S, V>,

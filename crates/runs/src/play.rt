@@ -14,6 +14,7 @@ use timestamps::Timestamp;
 use values::Value;
 
 // Writes the answer to a call.
+// Kept: by its place, since over zip with iter_mut the invariant would have to follow each reference that was yielded.
 fn put<S: Timestamp, V: Value>(answers: &mut [Answer<S, V>], place: usize, answer: Answer<S, V>)
     requires { place < length answers.old }
     ensures { answers.new ≡ slice_set answers.old place answer }

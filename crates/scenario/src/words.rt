@@ -11,7 +11,7 @@ pub struct CallInWords(pub Call<Packed, Total>);
 #[derive(Drop)]
 pub struct AnswerInWords(pub Answer<Packed, Total>);
 
-// The name of the kind that a byte stands for.
+// Writes the name of the kind that a byte stands for.
 fn write_kind<W: fmt::Write>(kind: u8, f: &mut fmt::Formatter<W>) -> fmt::Result {
     match Kind::try_from(kind) {
         Ok(kind) => write!(f, "{kind}"),

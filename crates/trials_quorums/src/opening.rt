@@ -5,6 +5,7 @@ use std::process::Abort;
 use std::test::Fail;
 
 // The refusal's number; 0 where the system is opened, with so many servers.
+// Kept: the tests' tables have the numbers that the rules give.
 pub(crate) fn refusal_of<Q: QuorumSystem>(
     rt: &impl Abort,
     opened: Result<Q, Refusal>,

@@ -9,7 +9,8 @@ use third::version::Version;
 use timestamps::Timestamp;
 use values::Value;
 
-// The refusal of opening a system; 0 where it is opened, with so many servers.
+// The refusal's number on opening a system; 0 where it is opened, with so many servers.
+// Kept: the tests' table has the numbers that the rules give.
 fn opening(rt: &impl Abort, n: u8) -> Result<u8, Fail> {
     match Unanimous::open(n) {
         Ok(system) => {
