@@ -51,7 +51,7 @@ impl<S: Timestamp, V: Value> Server<S, V> {
         ensures { Received S.above S.lowest V.initial_value faulty self.old listeners.old network.old memory.old message result self.new listeners.new network.new memory.new }
     {
         let sending = self.replies(listeners, message, faulty);
-        is_in_row(listeners.len(), message.client)?;
+        check_row(listeners.len(), message.client)?;
         network.admits(memory.len(), sending)?;
         if !faulty {
             self.react(listeners, network, memory, message);
@@ -199,8 +199,8 @@ impl<S: Timestamp, V: Value> Server<S, V> {
     }
 }
 
-// Whether a client is in a row of so many clients that is within the limits.
-fn is_in_row(clients: usize, client: u8) -> Result<(), Refusal>
+// Refuses a client that is not in a row of so many clients, and a row that is not within the limits.
+fn check_row(clients: usize, client: u8) -> Result<(), Refusal>
     ensures { result ≡ passed (first_failed (row_checks clients client)) }
 {
     if clients > MOST_CLIENTS || usize::from(client) >= clients {

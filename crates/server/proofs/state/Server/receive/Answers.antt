@@ -12,7 +12,7 @@ react-requires g c =
     let net = c.args.network.now in
     let room = length c.args.memory.now in
     let passed = checks_passed net room (length row) c.args.message.client c.replies-sending.result
-    (none_failed _ _ (sym c.is_in_row.ensures ∙ c.in_ok-is_in_row.was)) (none_failed _ _ (sym c.admits.ensures ∙ c.in_ok-admits.was)) in
+    (none_failed _ _ (sym c.check_row.ensures ∙ c.in_ok-check_row.was)) (none_failed _ _ (sym c.admits.ensures ∙ c.in_ok-admits.was)) in
     let counted : ◌≡◌ {A = ℕ} c.replies-sending.result
     (length (reaction g.S.Timestamp.above lowest g.V.Value.initial_value c.args.faulty (length row) (state_of lowest c.args.self.now row) c.args.message).sent) =
     c.replies-sending.ensures in
