@@ -1,5 +1,5 @@
 // How a server listens to its clients: a row of listeners, client 0 first.
-ghost use Rattle.std.specs.Prelude.{◌≡◌, ◌<◌, length, nat_le, nat_lt, count_by};
+ghost use Rattle.std.specs.Prelude.{◌≡◌, ◌<◌, ◌≤◌, length, count_by};
 ghost use Rattle.server.specs.Serving.{silent, updated, wants, wanting, passed};
 ghost use Rattle.server.specs.Receiving.{listener_in};
 
@@ -65,34 +65,44 @@ pub(crate) fn listener_of<S: Timestamp>(listeners: &[Listener<S>], client: u8) -
     }
 }
 
-// Whether a READ is new to the row: its number is above the client's last one.
-pub(crate) fn is_new<S: Timestamp, V: Value>(
-    listeners: &[Listener<S>],
-    message: Message<S, V>,
-) -> bool
-    ensures { result ≡ nat_lt (listener_in S.lowest listeners.now message.client).number message.number }
-{
-    listener_of(listeners, message.client).number < message.number
+// A message from a client of the row of listeners, in memory that the caller lends.
+#[derive(Drop)]
+pub(crate) struct Arrival<'a, S, V> {
+    pub(crate) listeners: &'a mut [Listener<S>],
+    pub(crate) message: &'a Message<S, V>,
+    ghost few: { length listeners.now ≤ 64 },
+    ghost within: { message.now.client < length listeners.now },
 }
 
-// Whether a STOP is not late: its number is not below the client's last one.
-pub(crate) fn is_current<S: Timestamp, V: Value>(
-    listeners: &[Listener<S>],
-    message: Message<S, V>,
-) -> bool
-    ensures { result ≡ nat_le (listener_in S.lowest listeners.now message.client).number message.number }
-{
-    listener_of(listeners, message.client).number <= message.number
+impl<'a, S, V> Arrival<'a, S, V> {
+    // A message to this row.
+    pub(crate) fn new(
+        listeners: &'a mut [Listener<S>],
+        message: &'a Message<S, V>,
+    ) -> Arrival<'a, S, V>
+        requires few { length listeners.old ≤ 64 }
+        requires within { message.now.client < length listeners.old }
+        ensures memory { result.listeners.ghost_name ≡ listeners.entry.ghost_name }
+        ensures row { result.listeners.now ≡ listeners.old }
+        ensures message { result.message.now ≡ message.now }
+    {
+        Arrival { listeners, message }
+    }
 }
 
-// Another listener for a client, written whole.
-pub(crate) fn set_listener<S: Timestamp>(
-    listeners: &mut [Listener<S>],
-    client: u8,
-    listener: Listener<S>,
-)
-    requires { client < length listeners.old }
-    ensures { listener_in S.lowest listeners.new ≡ updated (listener_in S.lowest listeners.old) client listener }
-{
-    listeners[usize::from(client)] = listener;
+impl<S: Timestamp, V: Value> Arrival<'_, S, V> {
+    // How the server listens to the client of the message.
+    pub(crate) fn listener(&self) -> Listener<S>
+        ensures { result ≡ listener_in S.lowest self.now.listeners.now self.now.message.now.client }
+    {
+        listener_of(self.listeners, self.message.client)
+    }
+
+    // Another listener for the client of the message, written whole.
+    pub(crate) fn set(&mut self, listener: Listener<S>)
+        ensures memory { self.new.listeners.ghost_name ≡ self.old.listeners.ghost_name }
+        ensures row { listener_in S.lowest self.new.listeners.now ≡ updated (listener_in S.lowest self.old.listeners.now) self.old.message.now.client listener }
+    {
+        self.listeners[usize::from(self.message.client)] = listener;
+    }
 }

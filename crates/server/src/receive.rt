@@ -6,7 +6,7 @@ ghost use Rattle.network.specs.Queues.{Room, Sent};
 ghost use Rattle.server.specs.Serving.{on_query, on_store, on_read, on_stop, by_kind, reaction};
 ghost use Rattle.server.specs.Receiving.{state_of, Reacted, row_checks, reacts, Received};
 
-use crate::listeners::{count_wanting, is_current, is_new, listener_of, set_listener};
+use crate::listeners::{Arrival, count_wanting, listener_of};
 use crate::sending::{pass_on, reply, send};
 use crate::state::{Listener, Server};
 use calls::Refusal;
@@ -54,7 +54,8 @@ impl<S: Timestamp, V: Value> Server<S, V> {
         check_row(listeners.len(), message.client)?;
         network.admits(memory.len(), sending)?;
         if !faulty {
-            self.react(listeners, network, memory, message);
+            let mut arrival = Arrival::new(listeners, &message);
+            self.react(&mut arrival, network, memory);
         }
         Ok(())
     }
@@ -62,18 +63,16 @@ impl<S: Timestamp, V: Value> Server<S, V> {
     // What a correct server does with a message for which there is room.
     fn react(
         &mut self,
-        listeners: &mut [Listener<S>],
+        arrival: &mut Arrival<'_, S, V>,
         network: &mut Network,
         memory: &mut [Message<S, V>],
-        message: Message<S, V>,
     )
-        requires few { length listeners.old ≤ 64 }
-        requires within { message.client < length listeners.old }
-        requires room { Room network.old (length memory.old) (length (reacts S.above S.lowest V.initial_value false self.old listeners.old message).sent) }
-        ensures { Reacted S.lowest network.old memory.old (reacts S.above S.lowest V.initial_value false self.old listeners.old message) self.new listeners.new network.new memory.new }
+        requires { Room network.old (length memory.old) (length (reacts S.above S.lowest V.initial_value false self.old arrival.old.listeners.now arrival.old.message.now).sent) }
+        ensures memory { arrival.new.listeners.ghost_name ≡ arrival.old.listeners.ghost_name }
+        ensures after { Reacted S.lowest network.old memory.old (reacts S.above S.lowest V.initial_value false self.old arrival.old.listeners.now arrival.old.message.now) self.new arrival.new.listeners.now network.new memory.new }
     {
-        if let Ok(kind) = Kind::try_from(message.kind) {
-            self.react_by_kind(kind, listeners, network, memory, message);
+        if let Ok(kind) = Kind::try_from(arrival.message.kind) {
+            self.react_by_kind(kind, arrival, network, memory);
         }
     }
 
@@ -82,21 +81,19 @@ impl<S: Timestamp, V: Value> Server<S, V> {
     fn react_by_kind(
         &mut self,
         kind: Kind,
-        listeners: &mut [Listener<S>],
+        arrival: &mut Arrival<'_, S, V>,
         network: &mut Network,
         memory: &mut [Message<S, V>],
-        message: Message<S, V>,
     )
-        requires few { length listeners.old ≤ 64 }
-        requires within { message.client < length listeners.old }
-        requires room { Room network.old (length memory.old) (length (by_kind S.above S.lowest V.initial_value kind (length listeners.old) (state_of S.lowest self.old listeners.old) message).sent) }
-        ensures { Reacted S.lowest network.old memory.old (by_kind S.above S.lowest V.initial_value kind (length listeners.old) (state_of S.lowest self.old listeners.old) message) self.new listeners.new network.new memory.new }
+        requires { Room network.old (length memory.old) (length (by_kind S.above S.lowest V.initial_value kind (length arrival.old.listeners.now) (state_of S.lowest self.old arrival.old.listeners.now) arrival.old.message.now).sent) }
+        ensures memory { arrival.new.listeners.ghost_name ≡ arrival.old.listeners.ghost_name }
+        ensures after { Reacted S.lowest network.old memory.old (by_kind S.above S.lowest V.initial_value kind (length arrival.old.listeners.now) (state_of S.lowest self.old arrival.old.listeners.now) arrival.old.message.now) self.new arrival.new.listeners.now network.new memory.new }
     {
         match kind {
-            Kind::Query => self.answer_query(network, memory, message),
-            Kind::Store => self.answer_store(listeners, network, memory, message),
-            Kind::Read => self.answer_read(listeners, network, memory, message),
-            Kind::Stop => self.answer_stop(listeners, message),
+            Kind::Query => self.answer_query(network, memory, *arrival.message),
+            Kind::Store => self.answer_store(arrival, network, memory),
+            Kind::Read => self.answer_read(arrival, network, memory),
+            Kind::Stop => self.answer_stop(arrival),
             Kind::Ts | Kind::Ack | Kind::Value => {}
         }
     }
@@ -121,22 +118,25 @@ impl<S: Timestamp, V: Value> Server<S, V> {
     // STORE: ACK, then VALUE to the clients that want the pair, which is held if it is the later one.
     fn answer_store(
         &mut self,
-        listeners: &[Listener<S>],
+        arrival: &Arrival<'_, S, V>,
         network: &mut Network,
         memory: &mut [Message<S, V>],
-        message: Message<S, V>,
     )
-        requires few { length listeners.now ≤ 64 }
-        requires room { Room network.old (length memory.old) (length (on_store S.above S.lowest V.initial_value (length listeners.now) (state_of S.lowest self.old listeners.now) message).sent) }
-        ensures { Reacted S.lowest network.old memory.old (on_store S.above S.lowest V.initial_value (length listeners.now) (state_of S.lowest self.old listeners.now) message) self.new listeners.now network.new memory.new }
+        requires { Room network.old (length memory.old) (length (on_store S.above S.lowest V.initial_value (length arrival.now.listeners.now) (state_of S.lowest self.old arrival.now.listeners.now) arrival.now.message.now).sent) }
+        ensures { Reacted S.lowest network.old memory.old (on_store S.above S.lowest V.initial_value (length arrival.now.listeners.now) (state_of S.lowest self.old arrival.now.listeners.now) arrival.now.message.now) self.new arrival.now.listeners.now network.new memory.new }
     {
         send(
             network,
             memory,
-            reply(message, Kind::Ack, message.timestamp, V::initial()),
+            reply(
+                *arrival.message,
+                Kind::Ack,
+                arrival.message.timestamp,
+                V::initial(),
+            ),
         );
-        pass_on(listeners, network, memory, message);
-        self.hold(message);
+        pass_on(arrival, network, memory);
+        self.hold(*arrival.message);
     }
 
     // Holds the pair of a STORE if its timestamp is above the one held.
@@ -152,25 +152,21 @@ impl<S: Timestamp, V: Value> Server<S, V> {
     // READ, if it is new: the server listens from the timestamp held, and VALUE with what it holds.
     fn answer_read(
         &self,
-        listeners: &mut [Listener<S>],
+        arrival: &mut Arrival<'_, S, V>,
         network: &mut Network,
         memory: &mut [Message<S, V>],
-        message: Message<S, V>,
     )
-        requires within { message.client < length listeners.old }
-        requires room { Room network.old (length memory.old) (length (on_read S.above S.lowest V.initial_value (state_of S.lowest self.now listeners.old) message).sent) }
-        ensures { Reacted S.lowest network.old memory.old (on_read S.above S.lowest V.initial_value (state_of S.lowest self.now listeners.old) message) self.now listeners.new network.new memory.new }
+        requires { Room network.old (length memory.old) (length (on_read S.above S.lowest V.initial_value (state_of S.lowest self.now arrival.old.listeners.now) arrival.old.message.now).sent) }
+        ensures memory { arrival.new.listeners.ghost_name ≡ arrival.old.listeners.ghost_name }
+        ensures after { Reacted S.lowest network.old memory.old (on_read S.above S.lowest V.initial_value (state_of S.lowest self.now arrival.old.listeners.now) arrival.old.message.now) self.now arrival.new.listeners.now network.new memory.new }
     {
-        if is_new(listeners, message) {
-            set_listener(
-                listeners,
-                message.client,
-                Listener {
-                    number: message.number,
-                    listening: true,
-                    start: self.timestamp,
-                },
-            );
+        let message = *arrival.message;
+        if arrival.listener().number < message.number {
+            arrival.set(Listener {
+                number: message.number,
+                listening: true,
+                start: self.timestamp,
+            });
             send(
                 network,
                 memory,
@@ -180,21 +176,17 @@ impl<S: Timestamp, V: Value> Server<S, V> {
     }
 
     // STOP, if it is not late: the server no longer listens.
-    fn answer_stop(&self, listeners: &mut [Listener<S>], message: Message<S, V>)
-        requires { message.client < length listeners.old }
-        ensures { state_of S.lowest self.now listeners.new ≡ (on_stop S.above S.lowest V.initial_value (state_of S.lowest self.now listeners.old) message).after }
+    fn answer_stop(&self, arrival: &mut Arrival<'_, S, V>)
+        ensures memory { arrival.new.listeners.ghost_name ≡ arrival.old.listeners.ghost_name }
+        ensures after { state_of S.lowest self.now arrival.new.listeners.now ≡ (on_stop S.above S.lowest V.initial_value (state_of S.lowest self.now arrival.old.listeners.now) arrival.old.message.now).after }
     {
-        if is_current(listeners, message) {
-            let last = listener_of(listeners, message.client);
-            set_listener(
-                listeners,
-                message.client,
-                Listener {
-                    number: message.number,
-                    listening: false,
-                    ..last
-                },
-            );
+        let last = arrival.listener();
+        if last.number <= arrival.message.number {
+            arrival.set(Listener {
+                number: arrival.message.number,
+                listening: false,
+                ..last
+            });
         }
     }
 }
@@ -242,5 +234,5 @@ fn replies_to_read<S: Timestamp, V: Value>(
 ) -> usize
     ensures { (server : _) → result ≡ length (on_read S.above S.lowest V.initial_value (state_of S.lowest server listeners.now) message).sent }
 {
-    usize::from(is_new(listeners, message))
+    usize::from(listener_of(listeners, message.client).number < message.number)
 }

@@ -4,7 +4,7 @@ ghost use Rattle.network.specs.Queues.{Room, Sent};
 ghost use Rattle.server.specs.Serving.{reply, wanting, passed_on};
 ghost use Rattle.server.specs.Receiving.{listener_in};
 
-use crate::state::Listener;
+use crate::listeners::Arrival;
 use network::message::{Kind, Message};
 use network::queue::Network;
 use timestamps::Timestamp;
@@ -41,18 +41,20 @@ pub(crate) fn send<S: Timestamp, V: Value>(
 
 // Passes the pair of a STORE on to each client of the row that wants it, in client order.
 pub(crate) fn pass_on<S: Timestamp, V: Value>(
-    listeners: &[Listener<S>],
+    arrival: &Arrival<'_, S, V>,
     network: &mut Network,
     memory: &mut [Message<S, V>],
-    message: Message<S, V>,
 )
-    requires few { length listeners.now ≤ 64 }
-    requires room { Room network.old (length memory.old) (wanting S.above (listener_in S.lowest listeners.now) message.timestamp (length listeners.now)) }
-    ensures { Sent network.old memory.old (passed_on S.above message (listener_in S.lowest listeners.now) (length listeners.now)) network.new memory.new }
+    requires { Room network.old (length memory.old) (wanting S.above (listener_in S.lowest arrival.now.listeners.now) arrival.now.message.now.timestamp (length arrival.now.listeners.now)) }
+    ensures { Sent network.old memory.old (passed_on S.above arrival.now.message.now (listener_in S.lowest arrival.now.listeners.now) (length arrival.now.listeners.now)) network.new memory.new }
 {
-    for (client, listener) in listeners.iter().enumerate() {
-        if listener.wants(message.timestamp) {
-            send(network, memory, listener.passed(message, client as u8));
+    for (client, listener) in arrival.listeners.iter().enumerate() {
+        if listener.wants(arrival.message.timestamp) {
+            send(
+                network,
+                memory,
+                listener.passed(*arrival.message, client as u8),
+            );
         }
     }
 }

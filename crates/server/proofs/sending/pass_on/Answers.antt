@@ -11,26 +11,26 @@ use Rattle.server.proofs.sending.pass_on.Goals.{then-wants, else-wants}
 pub send-requires : goal.send-requires
 send-requires g c =
     let above = g.S.Timestamp.above in
-    let row = c.args.listeners.now in
+    let row = c.args.arrival.now.listeners.now in
     let f = listener_in g.S.Timestamp.lowest row in
-    let m = c.args.message in
+    let m = c.args.arrival.now.message.now in
     let i = c.loop-client.client in
-    let is : f i ≡ c.index-listeners-client.result =
-    listener_read g.S.Timestamp.lowest row i c.index-listeners-client.result c.loop-client-test.true c.index-listeners-client.is in
+    let is : f i ≡ c.listener-item.result =
+    listener_read g.S.Timestamp.lowest row i c.listener-item.result c.loop-client-test.true c.listener-item.is in
     let want = ap (λ y. wants above y m.timestamp) is ∙ sym c.if-wants.ensures in
     room_after c.args.network.now c.loop-client.network c.args.memory.now c.loop-client.memory (passed_on above m f i) 1
     c.loop-client.invariant
-    (room_next above m f c.args.network.now (length c.args.memory.now) i (length row) c.loop-client-test.true want c.requires.room)
+    (room_next above m f c.args.network.now (length c.args.memory.now) i (length row) c.loop-client-test.true want c.requires)
 
 pub loop-client-preserved : goal.loop-client-preserved
 loop-client-preserved g c =
     let above = g.S.Timestamp.above in
-    let row = c.args.listeners.now in
+    let row = c.args.arrival.now.listeners.now in
     let f = listener_in g.S.Timestamp.lowest row in
-    let m = c.args.message in
+    let m = c.args.arrival.now.message.now in
     let i = c.loop-client.client in
-    let x = c.index-listeners-client.result in
-    let is : f i ≡ x = listener_read g.S.Timestamp.lowest row i x c.loop-client-test.true c.index-listeners-client.is in
+    let x = c.listener-item.result in
+    let is : f i ≡ x = listener_read g.S.Timestamp.lowest row i x c.loop-client-test.true c.listener-item.is in
     let tested : wants above (f i) m.timestamp ≡ c.wants.result = ap (λ y. wants above y m.timestamp) is ∙ sym c.wants.ensures in
     let M = Message g.row.S.Denot g.row.V.Denot in
     let P : List M → Type 0 = λ ms. Sent c.args.network.now c.args.memory.now ms c.if-wants.network c.if-wants.memory in

@@ -5,4 +5,4 @@ use Rattle.server.proofs.sending.pass_on.Given as goal
 
 abbrev pub invariant-loop-client : goal.invariant-loop-client
 invariant-loop-client g l =
-    Sent l.initial.network l.initial.memory (passed_on g.S.Timestamp.above l.message (listener_in g.S.Timestamp.lowest l.listeners) l.client) l.network l.memory
+    Sent l.initial.network l.initial.memory (passed_on g.S.Timestamp.above l.arrival.message.now (listener_in g.S.Timestamp.lowest l.arrival.listeners.now) l.client) l.network l.memory

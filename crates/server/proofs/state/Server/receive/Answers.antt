@@ -17,10 +17,7 @@ react-requires g c =
     (length (reaction g.S.Timestamp.above lowest g.V.Value.initial_value c.args.faulty (length row) (state_of lowest c.args.self.now row) c.args.message).sent) =
     c.replies-sending.ensures in
     let P : ℕ → Type 0 = λ k. Room net room k in
-    record {
-      few = passed.0;
-      within = passed.1;
-      room = subst P
-          (counted ∙ ap (λ b. length (reaction g.S.Timestamp.above lowest g.V.Value.initial_value b (length row) (state_of lowest c.args.self.now row) c.args.message).sent) c.if-not-faulty.true)
-          passed.2;
-    }
+    rw (c.new-arrival.ensures.row, c.new-arrival.ensures.message) (
+    subst P
+    (counted ∙ ap (λ b. length (reaction g.S.Timestamp.above lowest g.V.Value.initial_value b (length row) (state_of lowest c.args.self.now row) c.args.message).sent) c.if-not-faulty.true)
+    passed.2)
