@@ -78,7 +78,7 @@ impl<S: Timestamp, V: Value> Reports<'_, S, V> {
         ensures kept { Kept self.old self.new }
         ensures after { (x k : ℕ) → x < self.old.n → k ≤ self.old.n → cell self.old.n self.new.entries.now x k ≡ renew_from (anew S.above (members leading) (known S.Timestamp V.Value self.old)) self.old.n i (cell self.old.n self.old.entries.now) x k }
     {
-        let width = self.n as u16;
+        let width = u16::from(self.n);
         if i < width * width {
             let server = (i / width) as u8;
             let slot = (i % width) as u8;

@@ -34,7 +34,7 @@ impl<'a, S, V> Reports<'a, S, V> {
 pub fn entries_for(n: u8) -> usize
     ensures { result ≡ n * (n + 1) }
 {
-    n as usize * (n as usize + 1)
+    usize::from(n) * (usize::from(n) + 1)
 }
 
 impl<S: Timestamp, V: Value> Reports<'_, S, V> {
@@ -45,7 +45,7 @@ impl<S: Timestamp, V: Value> Reports<'_, S, V> {
     fn index_of(&self, server: u8, place: u8) -> usize
         ensures { result ≡ server * (self.now.n + 1) + place }
     {
-        server as usize * (self.n as usize + 1) + place as usize
+        usize::from(server) * (usize::from(self.n) + 1) + usize::from(place)
     }
 
     // An entry of a server's row; past the end of the memory nothing is reported.
