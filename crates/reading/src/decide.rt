@@ -13,11 +13,11 @@ use timestamps::Timestamp;
 use values::Value;
 
 // Of a pair and the rest, the one with the higher timestamp.
-fn better<S: Timestamp, V: Value>(timestamp: S, value: V, rest: Option<(S, V)>) -> Option<(S, V)>
-    ensures { result ≡ better S.above timestamp (Some value) rest }
+fn better<S: Timestamp, V: Value>(pair: (S, V), rest: Option<(S, V)>) -> Option<(S, V)>
+    ensures { result ≡ better S.above pair.0 (Some pair.1) rest }
 {
-    rest.filter(|(other, _)| (*other).is_above(timestamp))
-        .or(Some((timestamp, value)))
+    rest.filter(|(other, _)| (*other).is_above(pair.0))
+        .or(Some(pair))
 }
 
 impl<S: Timestamp, V: Value> Reports<'_, S, V> {
@@ -77,7 +77,7 @@ impl<S: Timestamp, V: Value> Reports<'_, S, V> {
             return rest;
         };
         self.backed(system, timestamp)
-            .map_or(rest, |value| better(timestamp, value, rest))
+            .map_or(rest, |value| better((timestamp, value), rest))
     }
 
     // The highest watched timestamp for which a quorum has the same evidence, with that value.

@@ -29,15 +29,15 @@ impl<S: Timestamp, V: Value> Reports<'_, S, V> {
         self.entry(server, slot).map(|(_, value)| value)
     }
 
-    // Writes the value as the server's evidence into each slot that is watched for the timestamp.
-    pub(crate) fn note(&mut self, server: u8, timestamp: S, value: V)
+    // Writes the pair as the server's evidence into each slot that is watched for its timestamp.
+    pub(crate) fn note(&mut self, server: u8, pair: (S, V))
         requires row { server < self.old.n }
         ensures kept { Kept self.old self.new }
-        ensures after { known S.Timestamp V.Value self.new ≡ noted S.above (known S.Timestamp V.Value self.old) server timestamp value }
+        ensures after { known S.Timestamp V.Value self.new ≡ noted S.above (known S.Timestamp V.Value self.old) server pair.0 pair.1 }
     {
         for slot in 0..self.n {
-            if self.is_watched(timestamp, slot) {
-                self.put(server, slot, Some((timestamp, value)));
+            if self.is_watched(pair.0, slot) {
+                self.put(server, slot, Some(pair));
             }
         }
     }

@@ -32,21 +32,20 @@ fn learn<Q: QuorumSystem, S: Timestamp, V: Value>(
     part: &mut [Report<S, V>],
     n: u8,
     server: u8,
-    timestamp: S,
-    value: V,
+    pair: (S, V),
 ) -> Option<(S, V)>
     requires few { n ≤ 16 }
     requires room { length part.old ≡ n * (n + 1) }
     requires row { server < n }
-    ensures after { view S.above (S.lowest, V.initial_value) n part.new ≡ after_value (rules_for Q.QuorumSystem S.Timestamp V.Value n system.now) (S.lowest, V.initial_value) part.old server timestamp value }
-    ensures answer { result ≡ decided (rules_for Q.QuorumSystem S.Timestamp V.Value n system.now) (S.lowest, V.initial_value) part.old server timestamp value }
+    ensures after { view S.above (S.lowest, V.initial_value) n part.new ≡ after_value (rules_for Q.QuorumSystem S.Timestamp V.Value n system.now) (S.lowest, V.initial_value) part.old server pair.0 pair.1 }
+    ensures answer { result ≡ decided (rules_for Q.QuorumSystem S.Timestamp V.Value n system.now) (S.lowest, V.initial_value) part.old server pair.0 pair.1 }
 {
     let mut reports = Reports::new(part, n);
-    let entered = reports.raise(server, timestamp, value);
+    let entered = reports.raise(server, pair);
     if !entered {
         reports.watch_anew(system);
     }
-    reports.note(server, timestamp, value);
+    reports.note(server, pair);
     reports.decide(system)
 }
 
@@ -70,7 +69,6 @@ pub fn hear<Q: QuorumSystem, S: Timestamp, V: Value>(
         &mut part[..entries_for(n)],
         n,
         server,
-        timestamp,
-        value,
+        (timestamp, value),
     )
 }

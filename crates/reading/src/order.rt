@@ -57,15 +57,15 @@ impl<S: Timestamp, V: Value> Reports<'_, S, V> {
     }
 
     // Brings the server's latest pair up to date, and says whether the server had entered before.
-    pub(crate) fn raise(&mut self, server: u8, timestamp: S, value: V) -> bool
+    pub(crate) fn raise(&mut self, server: u8, pair: (S, V)) -> bool
         requires row { server < self.old.n }
         ensures kept { Kept self.old self.new }
         ensures was { result ≡ (known S.Timestamp V.Value self.old).entered server }
-        ensures after { known S.Timestamp V.Value self.new ≡ raised S.above (known S.Timestamp V.Value self.old) server timestamp value }
+        ensures after { known S.Timestamp V.Value self.new ≡ raised S.above (known S.Timestamp V.Value self.old) server pair.0 pair.1 }
     {
         let entered = self.has_entered(server);
-        if self.is_newer(server, timestamp) {
-            self.put(server, self.n, Some((timestamp, value)));
+        if self.is_newer(server, pair.0) {
+            self.put(server, self.n, Some(pair));
         }
         entered
     }

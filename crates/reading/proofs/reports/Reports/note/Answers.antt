@@ -12,8 +12,8 @@ loop-slot-preserved g c =
     let old = c.args.self.now in
     let n = old.n in
     let b = c.args.server in
-    let s = c.args.timestamp in
-    let v = c.args.value in
+    let s = c.args.pair.0 in
+    let v = c.args.pair.1 in
     let j = c.loop-slot.slot in
     let r = c.loop-slot.self in
     let grid = cell n old.entries.now in
@@ -44,6 +44,6 @@ returns-clause-after g c =
     let grid = cell n old.entries.now in
     let end : c.loop-slot.slot ≡ n = omega arith in
     ap (λ m. view above d m r.entries.now) c.loop-slot.invariant.kept.servers
-    ∙ shown_same above d n (cell n r.entries.now) (note_to above n grid c.args.server c.args.timestamp c.args.value)
-    (λ x k l m. c.loop-slot.invariant.cells x k m ∙ ap (λ i. note_to above i grid c.args.server c.args.timestamp c.args.value x k) end)
-    ∙ note_all above g.met.S.Timestamp.ordered d n grid c.args.server c.args.timestamp c.args.value c.requires.row
+    ∙ shown_same above d n (cell n r.entries.now) (note_to above n grid c.args.server c.args.pair.0 c.args.pair.1)
+    (λ x k l m. c.loop-slot.invariant.cells x k m ∙ ap (λ i. note_to above i grid c.args.server c.args.pair.0 c.args.pair.1 x k) end)
+    ∙ note_all above g.met.S.Timestamp.ordered d n grid c.args.server c.args.pair.0 c.args.pair.1 c.requires.row

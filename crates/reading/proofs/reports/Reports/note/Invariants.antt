@@ -8,5 +8,5 @@ invariant-loop-slot g l =
       kept : Kept l.fn.self l.self;
       cells :
           (x k : ℕ) → k ≤ l.fn.self.n → cell l.fn.self.n l.self.entries.now x k
-          ≡ note_to g.S.Timestamp.above l.slot (cell l.fn.self.n l.fn.self.entries.now) l.server l.timestamp l.value x k;
+          ≡ note_to g.S.Timestamp.above l.slot (cell l.fn.self.n l.fn.self.entries.now) l.server l.pair.0 l.pair.1 x k;
     }

@@ -10,5 +10,5 @@ returns-then-is_newer-clause-after g c =
     let above = g.S.Timestamp.above in
     let r = c.args.self.now in
     let b = c.args.server in
-    put_view r c.put.new.self b r.n (Some (c.args.timestamp, c.args.value)) c.requires.row (omega arith) c.put.ensures.written above d c.put.ensures.kept
-    ∙ raise_yes above d r.n (cell r.n r.entries.now) b c.requires.row c.args.timestamp c.args.value (sym c.if-is_newer.ensures)
+    put_view r c.put.new.self b r.n (Some c.args.pair) c.requires.row (omega arith) c.put.ensures.written above d c.put.ensures.kept
+    ∙ raise_yes above d r.n (cell r.n r.entries.now) b c.requires.row c.args.pair.0 c.args.pair.1 (sym c.if-is_newer.ensures)
