@@ -46,6 +46,7 @@ impl<S: Timestamp, V: Value> Reports<'_, S, V> {
     fn known_for(&self, server: u8, timestamp: S) -> Option<V>
         ensures { result ≡ has S.above (known S.Timestamp V.Value self.now) server timestamp }
     {
+        // Kept: with or_else the proof did not close.
         match self.last(server) {
             Some((latest, value)) if is_level(latest, timestamp) => Some(value),
             _ => self.evidence_of(server, timestamp),

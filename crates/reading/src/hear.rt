@@ -27,7 +27,7 @@ pub fn has_room(entries: usize, n: u8, server: u8) -> bool
 }
 
 // A VALUE of the server: what the client keeps of it in the reports of n servers, and what it decides.
-// Kept: the struct was tried, made in hear from a part of the slice, and the proof lost what the slice holds in the end.
+// Kept: with the struct made in hear, from a part of the slice, the proof lost what the slice holds in the end.
 fn learn<Q: QuorumSystem, S: Timestamp, V: Value>(
     system: &Q,
     part: &mut [Report<S, V>],

@@ -53,7 +53,8 @@ impl<S: Timestamp, V: Value> Reports<'_, S, V> {
     fn is_newer(&self, server: u8, timestamp: S) -> bool
         ensures { result ≡ newer S.above (known S.Timestamp V.Value self.now) server timestamp }
     {
-        !self.has_entered(server) || timestamp.is_above(self.latest(server))
+        self.last(server)
+            .is_none_or(|(latest, _)| timestamp.is_above(latest))
     }
 
     // Brings the server's latest pair up to date, and says whether the server had entered before.
@@ -75,8 +76,9 @@ impl<S: Timestamp, V: Value> Reports<'_, S, V> {
         ensures { result ≡ ahead S.above (known S.Timestamp V.Value self.now) server other }
     {
         let own = self.latest(server);
-        let others = self.latest(other);
-        self.has_entered(other) && (others.is_above(own) || !own.is_above(others) && other < server)
+        self.last(other).is_some_and(|(others, _)| {
+            others.is_above(own) || !own.is_above(others) && other < server
+        })
     }
 
     // The servers that are ahead of the server.
