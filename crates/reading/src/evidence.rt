@@ -1,5 +1,5 @@
 // The watched timestamps, and the servers' evidence for them.
-ghost use Rattle.std.specs.Prelude.{◌≡◌, ℕ, ◌<◌, ◌≤◌};
+ghost use Rattle.std.specs.Prelude.{◌≡◌, ℕ, ◌*◌, ◌/◌, ◌%◌, ◌<◌, ◌≤◌, None, slice_index_or};
 ghost use Rattle.quorums.specs.Sets.{members};
 ghost use Rattle.reading.specs.Readings.{rules_for, noted, rewatched};
 ghost use Rattle.reading.specs.Reports.{Kept, cell, known, watches, has, fresh, anew, renew_from};
@@ -73,19 +73,18 @@ impl<S: Timestamp, V: Value> Reports<'_, S, V> {
         }
     }
 
-    // Writes the slots from the i-th on anew, counted row by row. Each is read on the way down and written on the way up, so that all are made from the reports as they were.
-    // Kept: a recursion, since there is neither a heap nor lent memory for a copy of the old slots.
-    fn renew(&mut self, leading: ServerSet, i: u16)
+    // Writes the slots anew, counted row by row: all are made before the first is written.
+    fn renew(&mut self, leading: ServerSet)
         ensures kept { Kept self.old self.new }
-        ensures after { (x k : ℕ) → x < self.old.n → k ≤ self.old.n → cell self.old.n self.new.entries.now x k ≡ renew_from (anew S.above (members leading) (known S.Timestamp V.Value self.old)) self.old.n i (cell self.old.n self.old.entries.now) x k }
+        ensures after { (x k : ℕ) → x < self.old.n → k ≤ self.old.n → cell self.old.n self.new.entries.now x k ≡ renew_from (anew S.above (members leading) (known S.Timestamp V.Value self.old)) self.old.n 0 (cell self.old.n self.old.entries.now) x k }
     {
         let width = u16::from(self.n);
-        if i < width * width {
-            let server = (i / width) as u8;
-            let slot = (i % width) as u8;
-            let report = self.anew(leading, server, slot);
-            self.renew(leading, i + 1);
-            self.put(server, slot, report);
+        let mut slots: [Report<S, V>; 256] = [None; 256];
+        for i in 0..width * width {
+            slots[usize::from(i)] = self.anew(leading, (i / width) as u8, (i % width) as u8);
+        }
+        for j in (0..width * width).rev() {
+            self.put((j / width) as u8, (j % width) as u8, slots[usize::from(j)]);
         }
     }
 
@@ -95,6 +94,6 @@ impl<S: Timestamp, V: Value> Reports<'_, S, V> {
         ensures after { known S.Timestamp V.Value self.new ≡ rewatched (rules_for Q.QuorumSystem S.Timestamp V.Value self.old.n system.now) (known S.Timestamp V.Value self.old) }
     {
         let leading = self.leaders(system);
-        self.renew(leading, 0);
+        self.renew(leading);
     }
 }
