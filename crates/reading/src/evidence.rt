@@ -1,5 +1,5 @@
 // The watched timestamps, and the servers' evidence for them.
-ghost use Rattle.std.specs.Prelude.{◌≡◌, ℕ, ◌*◌, ◌/◌, ◌%◌, ◌<◌, ◌≤◌, None, slice_index_or};
+ghost use Rattle.std.specs.Prelude.{◌≡◌, ℕ, ◌<◌, ◌≤◌};
 ghost use Rattle.quorums.specs.Sets.{members};
 ghost use Rattle.reading.specs.Readings.{rules_for, noted, rewatched};
 ghost use Rattle.reading.specs.Reports.{Kept, cell, known, watches, has, fresh, anew, renew_from};

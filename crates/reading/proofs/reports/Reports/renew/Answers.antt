@@ -1,9 +1,8 @@
 use Rattle.std.proofs.Common.{rules, ◌≡◌, ℕ, ◌+◌, ◌-◌, ◌*◌, ◌/◌, ◌%◌, ◌<◌, ◌≤◌, ◌≢◌, None, length, set, get_or, sym, ap, ◌∙◌, subst, arith, below_more}
 use Rattle.std.proofs.lemmas.Nat.{mul-le}
 use Rattle.std.proofs.lemmas.List.{get_or-set_same, get_or-set_other, get_or_default}
-use borrow.Author.Rules.{scaled_fits≤}
 use Rattle.quorums.specs.Sets.{members}
-use Rattle.reading.specs.Reports.{Report, cell, known, anew, put_at, renew_from}
+use Rattle.reading.specs.Reports.{cell, known, anew, put_at, renew_from}
 use Rattle.reading.proofs.Cells.{put_cell}
 use Rattle.reading.proofs.Enters.{row_of, place_of, renew_more, renew_none}
 use Rattle.reading.proofs.reports.Reports.renew.Goals as goal
