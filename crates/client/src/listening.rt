@@ -62,7 +62,8 @@ impl<S: Timestamp, V: Value> Client<S, V> {
 
 // A VALUE that may not end the read: where it would, the reports from the i-th on are as they were. Each is
 // read on the way down and written back on the way up.
-// Kept: the way down holds the old reports, since there is no heap, and no array of a type parameter, for a copy.
+// Kept: the way down holds the old reports; that a copy in a local array of 272 fits, whatever the size of an entry, was
+// tried and not proved.
 fn try_value<Q: QuorumSystem, S: Timestamp, V: Value>(
     system: &Q,
     part: &mut [Report<S, V>],
