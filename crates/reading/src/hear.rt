@@ -10,6 +10,7 @@ use timestamps::Timestamp;
 use values::Value;
 
 // A read begins: nothing is known.
+// Kept: a loop, since std's fill asks that a clone cannot fail, which no type parameter says.
 pub fn forget<S: Timestamp, V: Value>(part: &mut [Report<S, V>])
     ensures memory { part.new ≡ replicate (length part.old) None }
     ensures shows { (n : ℕ) → view S.above (S.lowest, V.initial_value) n part.new ≡ unread S.lowest V.initial_value }

@@ -12,6 +12,7 @@ pub struct CallInWords(pub Call<Packed, Total>);
 pub struct AnswerInWords(pub Answer<Packed, Total>);
 
 // Writes the name of the kind that a byte stands for.
+// Kept: each of the two programs tells its run in words of its own.
 fn write_kind<W: fmt::Write>(kind: u8, f: &mut fmt::Formatter<W>) -> fmt::Result {
     match Kind::try_from(kind) {
         Ok(kind) => write!(f, "{kind}"),

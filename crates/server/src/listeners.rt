@@ -51,7 +51,7 @@ pub(crate) fn count_wanting<S: Timestamp>(listeners: &[Listener<S>], timestamp: 
 }
 
 // How the server listens to a client.
-// Kept: a record in lent memory is read field by field.
+// Kept: by a rule of this project messages and listeners in lent memory are read field by field.
 pub(crate) fn listener_of<S: Timestamp>(listeners: &[Listener<S>], client: u8) -> Listener<S>
     ensures { result ≡ listener_in S.lowest listeners.now client }
 {
