@@ -29,6 +29,7 @@ impl From<Kind> for u8 {
     }
 }
 
+// Kept: the one table of bytes, since no derive reads a kind from its byte.
 impl TryFrom<u8> for Kind {
     type Error = UnknownKind;
 

@@ -74,6 +74,7 @@ impl<S: Timestamp, V: Value> Reports<'_, S, V> {
     }
 
     // Writes the slots anew, counted row by row: all are made before the first is written.
+    // Kept: by number, since a slot's number gives its row and its column.
     fn renew(&mut self, leading: ServerSet)
         ensures kept { Kept self.old self.new }
         ensures after { (x k : ℕ) → x < self.old.n → k ≤ self.old.n → cell self.old.n self.new.entries.now x k ≡ renew_from (anew S.above (members leading) (known S.Timestamp V.Value self.old)) self.old.n 0 (cell self.old.n self.old.entries.now) x k }

@@ -12,6 +12,7 @@ use timestamps::Timestamp;
 use values::Value;
 
 // Those of the first n servers of which the test holds.
+// Kept: a loop, whose invariant says which servers the set has so far; in a fold it would have to stand at the closure.
 pub(crate) fn servers_where<F: Fn(u8) -> bool>(n: u8, holds: F) -> ServerSet
     requires { (i : ℕ) → i < n → F.pre holds i }
     ensures tested { Tested (F.post holds) n (members result) }

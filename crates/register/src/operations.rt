@@ -39,6 +39,7 @@ impl<Q: QuorumSystem> Register<Q> {
     }
 
     // Sends what goes from a client to the servers, for which there is room.
+    // Kept: beside a delivery's, which sends on a network that it holds, and this on one that it makes.
     fn send<S: Timestamp, V: Value>(
         &mut self,
         messages: &mut [Message<S, V>],

@@ -17,6 +17,7 @@ use timestamps::packed::Packed;
 use values::Value;
 use values::total::Total;
 
+// Kept: bytes, in the tests of each layer, since the tests say themselves which byte a kind has.
 pub const QUERY: u8 = 1;
 
 pub const TS: u8 = 2;

@@ -56,6 +56,7 @@ fn is_expected<S: Timestamp, V: Value>(
 }
 
 // What memory holds before the first message.
+// Kept: each crate of tests, and the program, has an empty message of its own, since they share no crate.
 fn blank<S: Timestamp, V: Value>() -> Message<S, V> {
     Message {
         client: 0,

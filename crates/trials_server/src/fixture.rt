@@ -6,6 +6,7 @@ use server::state::{Listener, Server};
 use timestamps::packed::Packed;
 use values::total::Total;
 
+// Kept: bytes, in the tests of each layer, since the tests say themselves which byte a kind has.
 pub const QUERY: u8 = 1;
 
 pub const TS: u8 = 2;
