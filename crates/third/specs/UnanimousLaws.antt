@@ -1,7 +1,7 @@
--- The laws of the unanimous system. Assumes nothing.
-use Rattle.std.specs.Prelude.{◌≡◌, ℕ, zero, suc, ◌<◌, ◌≤◌, Bool, true, false, not, refl}
-use Rattle.std.proofs.Common.{subst, inl, inr, arith}
-use Rattle.std.proofs.lemmas.Bool.{and_parts, and_from, cases_lt}
+-- The laws of the unanimous system, and what one server more or less means for all of them. Assumes nothing.
+use Rattle.std.specs.Prelude.{◌≡◌, ℕ, zero, suc, ◌+◌, ◌<◌, ◌≤◌, Bool, true, false, not, ◌≢◌, refl}
+use Rattle.std.proofs.Common.{ap, subst, ◌∙◌, inl, inr, add-one, arith}
+use Rattle.std.proofs.lemmas.Bool.{and_parts, and_from, both_ways, cases_lt}
 use Rattle.quorums.specs.Sets.{Set, outside}
 use Rattle.quorums.specs.Laws.{QuorumLaws}
 use Rattle.third.specs.Unanimity.{each}
@@ -18,6 +18,18 @@ each_at (suc n) s e i h =
 each_from : (n : ℕ) (s : Set) → ((i : ℕ) → i < n → s i ≡ true) → each n s ≡ true
 each_from zero s h = refl
 each_from (suc n) s h = and_from (s n) (each n s) (h n (omega arith)) (each_from n s (λ i l. h i (omega arith)))
+
+not-true : (b : Bool) → (b ≢ true) → b ≡ false
+not-true true h = absurd (h refl)
+not-true false h = refl
+
+-- a server that is not in the set
+pub each_lacks : (n i : ℕ) (s : Set) → i < n → s i ≡ false → each n s ≡ false
+each_lacks n i s l e = not-true (each n s) (λ t. both_ways (s i) e (each_at n s t i l))
+
+-- one server more that is in the set
+pub each_more : (n : ℕ) (s : Set) → each n s ≡ true → s n ≡ true → each (n + 1) s ≡ true
+each_more n s e h = ap (λ k. each k s) (add-one n) ∙ and_from (s n) (each n s) h e
 
 fewer : (x y : Bool) → (x ≡ true → y ≡ true) → not y ≡ true → not x ≡ true
 fewer x y h e = grind arith
