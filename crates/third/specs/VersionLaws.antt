@@ -36,6 +36,7 @@ version_none n h = when_false n (nat_lt n (2 ^ 8)) (leb→le (suc n) (2 ^ 8)) (l
 pub version_next : (client : ℕ) (a b s : Version) → client ≡ 0 → s.number ≡ (higher version_above a b).number + 1 → version_successor client a b ≡ Some s
 version_next client a b s h e = cond-true (client == 0) _ None (eq-eqb client 0 h) ∙ ap version (sym e) ∙ version_number s
 
+-- a client from 1 on is not client 0
 pub other_client : (client : ℕ) → 1 ≤ client → (client == 0) ≡ false
 other_client client h = grind (arith, nat_tests)
 
