@@ -112,6 +112,7 @@ impl<S: Timestamp, V: Value> Client<S, V> {
     }
 
     // Begins a read, with nothing known.
+    // Kept: beside a write's beginning, since a read is lent its reports, and forgets them only once it may begin.
     pub fn begin_read<Q: QuorumSystem>(
         &mut self,
         system: &Q,

@@ -41,6 +41,7 @@ impl<S: Timestamp, V: Value> Broadcast<S, V> {
     }
 
     // Sends it where there is room for so many messages.
+    // Kept: room for its own messages is what each sender asks, and no two ask for the same.
     fn send_all(self, network: &mut Network, memory: &mut [Message<S, V>], n: u8, client: u8)
         requires { Room network.old (length memory.old) n }
         ensures { Sent network.old memory.old (messages_of n client (Some self)) network.new memory.new }

@@ -38,7 +38,7 @@ pub struct Broadcast<S, V> {
 }
 
 // What the client is afterwards, what is answered, and what goes to the servers, if anything does.
-#[derive(Clone, Copy)]
+#[derive(Clone, Copy, PartialEq, Eq, Debug)]
 pub struct Outcome<S, V> {
     pub client: Client<S, V>,
     pub answer: Answer<S, V>,

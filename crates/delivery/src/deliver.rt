@@ -31,13 +31,15 @@ pub fn is_from_server(kind: Kind) -> bool
 fn kind_named<S: Copy, V: Copy>(message: &Message<S, V>, n: u8, m: usize) -> Option<Kind>
     ensures { result ≡ kind_named n m message.now }
 {
-    if message.client as usize >= m || message.server >= n {
+    if usize::from(message.client) >= m || message.server >= n {
         return None;
     }
     Kind::try_from(message.kind).ok()
 }
 
 // Hands a lifted message of a kind to its client or to its server.
+// Kept: as in `hand`, each inner function asks for the facts that it uses; message and token part on the way, since only the
+// token is spent.
 fn hand_by_kind<Q: QuorumSystem, S: Timestamp, V: Value>(
     system: &Q,
     m: usize,

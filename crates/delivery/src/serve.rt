@@ -10,7 +10,7 @@ use timestamps::Timestamp;
 use values::Value;
 
 // Lends the server of a message, and its own row of listeners, for the message.
-// Kept: cut by places and with `as`, as the reports of a client are.
+// Kept: cut by places and with `as`, and asking for what it uses, as for the reports of a client.
 pub(crate) fn serve<S: Timestamp, V: Value>(
     servers: &mut [Server<S, V>],
     listeners: &mut [Listener<S>],

@@ -22,9 +22,9 @@ impl Sizes {
         requires { m ≤ 64 }
         ensures { result ≡ room_for n m self }
     {
-        n as usize <= self.servers
+        usize::from(n) <= self.servers
             && m <= self.clients
-            && n as usize * m <= self.listeners
+            && usize::from(n) * m <= self.listeners
             && m * entries_for(n) <= self.reports
     }
 

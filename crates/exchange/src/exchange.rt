@@ -46,6 +46,7 @@ struct InWords(Note);
 impl fmt::Display for InWords {
     fn fmt<W: fmt::Write>(&self, f: &mut fmt::Formatter<W>) -> fmt::Result {
         let kind = Kind::try_from(self.0.kind);
+        // Kept: each of the two programs tells its run in words of its own.
         match kind {
             Ok(kind) => write!(f, "{kind}")?,
             Err(unknown) => write!(f, "{unknown}")?,

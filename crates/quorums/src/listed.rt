@@ -8,7 +8,7 @@ pub const MOST_SETS: usize = 128;
 
 // n servers, and up to 128 sets of them: the servers of a set may all be faulty at once.
 // No three of the sets have all servers together.
-#[derive(Clone, Copy)]
+#[derive(Clone, Copy, PartialEq, Eq, Debug)]
 pub struct Listed {
     pub n: u8,
     // Kept: a register's record is Copy, has no heap, and outlives the sets that it was opened with.

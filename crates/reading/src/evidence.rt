@@ -29,6 +29,7 @@ impl<S: Timestamp, V: Value> Reports<'_, S, V> {
         self.entry(server, slot).map(|(_, value)| value)
     }
 
+    // Kept: the two that write a server's row ask that the server is one of the n; those that read ask nothing.
     // Writes the pair as the server's evidence into each slot that is watched for its timestamp.
     pub(crate) fn note(&mut self, server: u8, pair: (S, V))
         requires row { server < self.old.n }
@@ -74,7 +75,7 @@ impl<S: Timestamp, V: Value> Reports<'_, S, V> {
     }
 
     // Writes the slots anew, counted row by row: all are made before the first is written.
-    // Kept: by number, since a slot's number gives its row and its column.
+    // Kept: by number, as the definition counts the slots that are written; two loops would count them in another order.
     fn renew(&mut self, leading: ServerSet)
         ensures kept { Kept self.old self.new }
         ensures after { (x k : ℕ) → x < self.old.n → k ≤ self.old.n → cell self.old.n self.new.entries.now x k ≡ renew_from (anew S.above (members leading) (known S.Timestamp V.Value self.old)) self.old.n 0 (cell self.old.n self.old.entries.now) x k }

@@ -26,6 +26,7 @@ fn reset<T: Copy>(memory: &mut [T], count: usize, value: T)
 }
 
 // How many listeners n servers have for m clients.
+// Kept: n is widened by `as` in this file, since with usize::from the proof of what is set up did not close.
 fn listener_count(n: u8, m: usize) -> usize
     requires { m ≤ 64 }
     ensures { result ≡ n * m }

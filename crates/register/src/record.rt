@@ -13,7 +13,7 @@ use quorums::sets::ServerSet;
 // The quorum system, how many clients there are, how many messages the queue may hold, how many it holds, and the
 // servers that are faulty.
 // Kept: the length stands beside lent memory, since the record outlives each loan and owns no heap.
-#[derive(Clone, Copy)]
+#[derive(Clone, Copy, PartialEq, Eq, Debug)]
 pub struct Register<Q> {
     pub system: Q,
     pub clients: usize,
@@ -41,7 +41,7 @@ impl<Q: QuorumSystem> Register<Q> {
     pub(crate) fn check_client(&self, client: u8) -> Result<(), Refusal>
         ensures { result ≡ passed (first_failed ((not (nat_lt client self.now.clients), NoClient) ∷ [])) }
     {
-        if client as usize >= self.clients {
+        if usize::from(client) >= self.clients {
             return Err(Refusal::NoClient);
         }
         Ok(())

@@ -61,6 +61,7 @@ impl<S: Timestamp, V: Value> Server<S, V> {
     }
 
     // What a correct server does with a message for which there is room.
+    // Kept: each step asks for room for its own messages, and names the three parts of the kinds that the protocol's words take.
     fn react(
         &mut self,
         arrival: &mut Arrival<'_, S, V>,

@@ -28,6 +28,7 @@ fn has_all(set: ServerSet, n: u8) -> bool
 }
 
 // Whether none of the first n servers is in the set.
+// Kept: two tests of one line; a function of both would take the test, and each would be a call of it.
 fn has_none(set: ServerSet, n: u8) -> bool
     ensures { result ≡ each n (outside (members set)) }
 {

@@ -1,7 +1,7 @@
 ghost use Rattle.std.specs.Prelude.{◌<◌, ◌≤◌};
 
 // n servers, none of which may be faulty: only all of them together are a quorum.
-#[derive(Clone, Copy)]
+#[derive(Clone, Copy, PartialEq, Eq, Debug)]
 pub struct Unanimous {
     pub n: u8,
     ghost some: { 0 < n },

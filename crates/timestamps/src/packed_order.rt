@@ -56,6 +56,7 @@ impl Timestamp for Packed {
     }
 
     fn next(client: u8, a: Packed, b: Packed) -> Option<Packed> {
+        // Kept: with map(Packed::new) the proof of the exact clause did not close.
         let number = number_above(client, b.max(a).number)?;
         Some(Packed::new(number))
     }

@@ -169,12 +169,7 @@ impl Fixture {
 
     // Record and memory are the same.
     pub(crate) fn is(&self, rt: &impl Abort, other: &Fixture) {
-        let a = &self.register;
-        let b = &other.register;
-        assert_eq!(rt;
-            (a.clients, a.capacity, a.len, a.faulty),
-            (b.clients, b.capacity, b.len, b.faulty)
-        );
+        assert_eq!(rt; self.register, other.register);
         assert_eq!(rt; self.lent, other.lent);
     }
 

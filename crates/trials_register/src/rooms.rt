@@ -20,7 +20,7 @@ fn beginning_needs_a_place_for_each_server(rt: HostRuntime) -> Result<(), Fail> 
         assert_eq!(rt; fixture.register.len, 12);
         for server in 0..4 {
             assert_eq!(rt;
-                fixture.message(8 + server as usize),
+                fixture.message(8 + usize::from(server)),
                 Some(note(1, server, kind, 1, 0, 0))
             );
         }
@@ -119,7 +119,7 @@ fn last_value_of_a_read_waits_for_room(rt: HostRuntime) -> Result<(), Fail> {
     assert_eq!(rt; fixture.register.len, 12);
     for server in 0..4 {
         assert_eq!(rt;
-            fixture.message(8 + server as usize),
+            fixture.message(8 + usize::from(server)),
             Some(note(1, server, STOP, 1, 0, 0))
         );
     }

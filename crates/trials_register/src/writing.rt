@@ -78,7 +78,7 @@ fn timestamp_is_the_next_above_the_highest_and_the_last(rt: HostRuntime) -> Resu
         assert_eq!(rt; fixture.register.len, 4);
         for server in 0..4 {
             assert_eq!(rt;
-                fixture.message(server as usize),
+                fixture.message(usize::from(server)),
                 Some(note(0, server, STORE, 2, chosen, 1250))
             );
         }

@@ -28,8 +28,8 @@ fn is_expected<S: Timestamp, V: Value>(
     needed: u8,
     written: (S, V),
 ) -> bool {
-    let wrote = 12 + needed as usize;
-    let read = 21 + needed as usize;
+    let wrote = 12 + usize::from(needed);
+    let read = 21 + usize::from(needed);
     match answer {
         Answer::Begun {
             client: 0,

@@ -12,6 +12,7 @@ use timestamps::packed::Packed;
 use values::total::Total;
 
 // The memory of a register of one server and one client.
+// Kept: what crates of tests have alike stands in each, since they share no crate.
 #[derive(Clone, Copy, PartialEq, Eq, Debug)]
 struct Lent {
     servers: [Server<Packed, Total>; 1],

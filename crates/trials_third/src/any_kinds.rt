@@ -31,6 +31,7 @@ fn store<S: Timestamp, V: Value>(server: u8, timestamp: S, value: V) -> Message<
 }
 
 // Takes the oldest message out of the network.
+// Kept: what crates of tests have alike stands in each, since they share no crate.
 fn oldest<S: Copy, V: Copy>(
     network: &mut Network,
     memory: &mut [Message<S, V>],
