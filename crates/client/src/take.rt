@@ -33,7 +33,7 @@ impl<S: Timestamp, V: Value> Client<S, V> {
     fn on_other<Q: QuorumSystem>(&self, system: &Q, reply: Reply<S, V>, kind: Kind) -> Outcome<S, V>
         ensures { (known : _) → (is_reading self.now.phase && is_value kind) ≡ false → outcome_of (Q.size system.now) reply.message.client result known ≡ awaited (kinds_of Q.QuorumSystem S.Timestamp V.Value system.now) kind (client_of self.now known) reply.message }
     {
-        match (self.phase, kind) {
+        match (&self.phase, kind) {
             (
                 Phase::Asking {
                     value,
@@ -41,7 +41,7 @@ impl<S: Timestamp, V: Value> Client<S, V> {
                     highest,
                 },
                 Kind::Ts,
-            ) => self.on_ts(system, reply, value, told, highest),
+            ) => self.on_ts(system, reply, *value, *told, *highest),
             (
                 Phase::Storing {
                     timestamp,
@@ -49,7 +49,7 @@ impl<S: Timestamp, V: Value> Client<S, V> {
                     acknowledged,
                 },
                 Kind::Ack,
-            ) => self.on_ack(system, reply, timestamp, value, acknowledged),
+            ) => self.on_ack(system, reply, *timestamp, *value, *acknowledged),
             _ => self.unchanged(),
         }
     }
@@ -67,7 +67,7 @@ impl<S: Timestamp, V: Value> Client<S, V> {
         ensures weighed { let K = kinds_of Q.QuorumSystem S.Timestamp V.Value system.now in let known = view S.above (S.lowest, V.initial_value) (Q.size system.now) part.old in Weighs K (S.lowest, V.initial_value) part.old message (awaited K kind (client_of self.now known) message) room result part.new }
         ensures unheard { (is_reading self.now.phase && is_value kind) ≡ false → part.new ≡ part.old }
     {
-        match (self.phase, kind) {
+        match (&self.phase, kind) {
             (Phase::Reading, Kind::Value) => self.on_value(system, part, message, room),
             _ => self
                 .on_other(system, Reply { message }, kind)

@@ -1,6 +1,6 @@
 // A lifted message at its server or its client: it is settled and followed by what they send, or put back.
-// Kept: each function, here and where it calls, asks for the facts that it uses, and takes only the slices that it writes, so that its type says that
-// the others stay; one struct of all would have to say so in clauses.
+// Kept: each function, here and where it calls, asks for the facts that it uses, and takes only the slices that it writes,
+// so that its type says that the others stay; one struct of all would have to say so in clauses.
 ghost use Rattle.std.specs.Prelude.{◌≡◌, ℕ, ◌+◌, ◌-◌, ◌*◌, ◌<◌, ◌≤◌, true, length, Some};
 ghost use Rattle.calls.specs.Answers.{answer_of};
 ghost use Rattle.calls.specs.declared.Answer.TheVariants.{Refused};
