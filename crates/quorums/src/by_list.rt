@@ -1,7 +1,7 @@
 // The listed system: quorums and fail-prone sets by a list of the largest fail-prone sets.
 ghost use Rattle.std.specs.Prelude.{◌≡◌, ◌≤◌, length, take};
 ghost use Rattle.std.specs.List.{list_any};
-ghost use Rattle.quorums.specs.Sets.{members, either};
+ghost use Rattle.quorums.specs.Sets.{members, either, all};
 ghost use Rattle.quorums.specs.Lists.{contained, completed, covered, past};
 ghost use Rattle.quorums.specs.ByList.{Opened, bad_list, sets_of, listed_size, listed_quorum, listed_fail_prone};
 ghost use Rattle.quorums.specs.Listings.{listed_laws};
@@ -93,17 +93,36 @@ fn is_past(set: ServerSet, n: u8) -> bool
 }
 
 // Whether the set is a part of some listed set.
+// Kept: a loop here and in the next, since `any` takes three times as long: of the two the compiler looks only at the loop's sets
+// several at a time.
 fn some_contains(sets: &[ServerSet], set: ServerSet, n: u8) -> bool
     ensures { result ≡ contained n sets.now (members set) }
 {
-    sets.iter().any(|listed| set.is_part_of(*listed, n))
+    for listed in sets {
+        if set.is_part_of(*listed, n) {
+            return true;
+        }
+    }
+    false
 }
 
 // Whether some listed set and this set have all n servers together.
 fn some_completes(sets: &[ServerSet], set: ServerSet, n: u8) -> bool
     ensures { result ≡ completed n sets.now (members set) }
 {
-    sets.iter().any(|listed| listed.union(set).covers(n))
+    for listed in sets {
+        if completes(*listed, set, n) {
+            return true;
+        }
+    }
+    false
+}
+
+// Whether the two sets have all n servers together.
+fn completes(listed: ServerSet, set: ServerSet, n: u8) -> bool
+    ensures { result ≡ all n (either (members listed) (members set)) }
+{
+    listed.union(set).covers(n)
 }
 
 // Whether some three of the sets have all n servers together.

@@ -1,5 +1,5 @@
 // The watched timestamps, and the servers' evidence for them.
-ghost use Rattle.std.specs.Prelude.{◌≡◌, ℕ, ◌<◌, ◌≤◌};
+ghost use Rattle.std.specs.Prelude.{◌≡◌, ℕ, ◌*◌, ◌<◌, ◌≤◌};
 ghost use Rattle.quorums.specs.Sets.{members};
 ghost use Rattle.reading.specs.Readings.{rules_for, noted, rewatched};
 ghost use Rattle.reading.specs.Reports.{Kept, cell, known, watches, has, fresh, anew, renew_from};
@@ -74,19 +74,36 @@ impl<S: Timestamp, V: Value> Reports<'_, S, V> {
         }
     }
 
-    // Writes the slots anew, counted row by row: all are made before the first is written.
+    // Writes the slots anew, counted row by row: all are made before the first is written, in an array that has room for them.
     // Kept: by number, as the definition counts the slots that are written; two loops would count them in another order.
-    fn renew(&mut self, leading: ServerSet)
+    // Not inlined, so that only the array of the size that is called for takes room on the stack.
+    #[inline(never)]
+    fn renew_in<const ROOM: usize>(&mut self, leading: ServerSet)
+        requires { self.old.n * self.old.n ≤ ROOM }
         ensures kept { Kept self.old self.new }
         ensures after { (x k : ℕ) → x < self.old.n → k ≤ self.old.n → cell self.old.n self.new.entries.now x k ≡ renew_from (anew S.above (members leading) (known S.Timestamp V.Value self.old)) self.old.n 0 (cell self.old.n self.old.entries.now) x k }
     {
         let width = u16::from(self.n);
-        let mut slots: [Report<S, V>; 256] = [None; 256];
+        let mut slots: [Report<S, V>; ROOM] = [None; ROOM];
         for i in 0..width * width {
             slots[usize::from(i)] = self.anew(leading, (i / width) as u8, (i % width) as u8);
         }
         for j in (0..width * width).rev() {
             self.put((j / width) as u8, (j % width) as u8, slots[usize::from(j)]);
+        }
+    }
+
+    // Writes the slots anew, in an array that is at most four times as large as it must be.
+    fn renew(&mut self, leading: ServerSet)
+        ensures kept { Kept self.old self.new }
+        ensures after { (x k : ℕ) → x < self.old.n → k ≤ self.old.n → cell self.old.n self.new.entries.now x k ≡ renew_from (anew S.above (members leading) (known S.Timestamp V.Value self.old)) self.old.n 0 (cell self.old.n self.old.entries.now) x k }
+    {
+        match self.n {
+            0..=1 => self.renew_in::<1>(leading),
+            2 => self.renew_in::<4>(leading),
+            3..=4 => self.renew_in::<16>(leading),
+            5..=8 => self.renew_in::<64>(leading),
+            _ => self.renew_in::<256>(leading),
         }
     }
 

@@ -80,6 +80,36 @@ fn kinds_have_the_bytes_1_to_7(rt: HostRuntime) {
 }
 
 #[test]
+fn refusals_have_the_numbers_1_to_21(rt: HostRuntime) {
+    let refusals = [
+        (Refusal::SystemSize, 1),
+        (Refusal::ListedSets, 2),
+        (Refusal::SetsCover, 3),
+        (Refusal::Memory, 4),
+        (Refusal::NoClient, 5),
+        (Refusal::NoServer, 6),
+        (Refusal::OperationOpen, 7),
+        (Refusal::NumbersUsedUp, 8),
+        (Refusal::NetworkFull, 9),
+        (Refusal::NoMessage, 10),
+        (Refusal::NotFailProne, 11),
+        (Refusal::ServerCorrect, 12),
+        (Refusal::NotServerKind, 13),
+        (Refusal::TokenOut, 14),
+        (Refusal::Digits, 15),
+        (Refusal::UnknownFrame, 16),
+        (Refusal::FrameLength, 17),
+        (Refusal::OtherKinds, 18),
+        (Refusal::NotOpened, 19),
+        (Refusal::OpenedTwice, 20),
+        (Refusal::ScriptTooLong, 21),
+    ];
+    for (refusal, number) in refusals {
+        assert_eq!(rt; u8::from(refusal), number);
+    }
+}
+
+#[test]
 fn opens_within_its_limits(rt: HostRuntime) {
     let memory = [note(0); 4098];
     let openings = [

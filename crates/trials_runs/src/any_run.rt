@@ -9,7 +9,7 @@ use server::state::{Listener, Server};
 use std::alloc::{AllocError, Global};
 use std::process::Abort;
 use std::test::Fail;
-use timestamps::{Timestamp, is_level};
+use timestamps::Timestamp;
 use values::Value;
 
 // A write that is followed by 16 deliveries, and a read that is followed by 12.
@@ -18,6 +18,12 @@ fn calls_of<S: Timestamp, V: Value>(heap: Global, value: V) -> Result<Vec<Call<S
     calls.insert(0, Call::Write { client: 0, value })?;
     calls.insert(17, Call::Read { client: 1 })?;
     Ok(calls)
+}
+
+// Whether two timestamps are equal: neither is above the other.
+// Kept: the tests' own, so that what is expected does not go through what is tested.
+fn is_level<S: Timestamp>(a: S, b: S) -> bool {
+    !a.is_above(b) && !b.is_above(a)
 }
 
 // Whether this is answer i, where the first servers up to so many are the first quorum.

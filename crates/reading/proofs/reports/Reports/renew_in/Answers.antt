@@ -5,7 +5,7 @@ use Rattle.quorums.specs.Sets.{members}
 use Rattle.reading.specs.Reports.{cell, known, anew, put_at, renew_from}
 use Rattle.reading.proofs.Cells.{put_cell}
 use Rattle.reading.proofs.Enters.{row_of, place_of, renew_more, renew_none}
-use Rattle.reading.proofs.reports.Reports.renew.Goals as goal
+use Rattle.reading.proofs.reports.Reports.renew_in.Goals as goal
 
 pub loop-i-preserved : goal.loop-i-preserved
 loop-i-preserved g c =
@@ -17,7 +17,7 @@ loop-i-preserved g c =
     let v = c.anew.result in
     let wide : c.from-width.result ≡ n = c.from-width.ensures in
     let more : i < n * n = subst (λ w. i < w * w) wide (omega arith) in
-    let few = mul-le n n 16 16 old.few old.few in
+    let few : n * n ≤ g.row.ROOM = c.requires in
     let lt : i < length xs = omega (arith, more, few) in
     let at : i ≡ c.from.result = sym c.from.ensures in
     record {
@@ -66,7 +66,7 @@ loop-j-preserved g c =
     let next : c.loop-j.j ≡ i + 1 = omega arith in
     let u = c.index-slots-from-in-loop-j.result in
     let v = get_or c.loop-i.slots c.from-in-loop-j.result u in
-    let few = mul-le n n 16 16 old.few old.few in
+    let few : n * n ≤ g.row.ROOM = c.requires in
     let at : c.from-in-loop-j.result ≡ i = c.from-in-loop-j.ensures in
     let made : i < c.loop-i.i = omega arith in
     let long : i < length c.loop-i.slots = omega (arith, more, few) in
