@@ -9,6 +9,13 @@ use quorums::QuorumSystem;
 use timestamps::Timestamp;
 use values::Value;
 
+// The entry reports nothing from now on.
+fn erase<S: Copy, V: Copy>(report: &mut Report<S, V>)
+    ensures { report.new ≡ None }
+{
+    *report = None;
+}
+
 // A read begins: nothing is known.
 // Kept: a loop, since std's fill asks that a clone cannot fail, which no type parameter says.
 pub fn forget<S: Timestamp, V: Value>(part: &mut [Report<S, V>])
@@ -16,7 +23,7 @@ pub fn forget<S: Timestamp, V: Value>(part: &mut [Report<S, V>])
     ensures shows { (n : ℕ) → view S.above (S.lowest, V.initial_value) n part.new ≡ unread S.lowest V.initial_value }
 {
     for report in part.iter_mut() {
-        *report = None;
+        erase(report);
     }
 }
 

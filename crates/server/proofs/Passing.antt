@@ -9,12 +9,12 @@ use Rattle.calls.specs.Refusals.{first_failed, passed as passed_checks}
 use Rattle.calls.specs.declared.Refusal.{Refusal}
 use Rattle.calls.specs.declared.Refusal.TheVariants.{Memory, NetworkFull, TokenOut}
 use Rattle.calls.proofs.Checks.{passes_first}
-use Rattle.network.specs.Queues.{sized, below, fits, send_checks, Room}
+use Rattle.network.specs.Queues.{sized, below, fits, Room}
 use Rattle.network.specs.declared.message.Message.{Message}
 use Rattle.network.specs.declared.queue.Network.{Network}
 use Rattle.server.specs.declared.state.Listener.{Listener}
 use Rattle.server.specs.Serving.{silent, updated, wants, wanting, passed, passed_on}
-use Rattle.server.specs.Receiving.{listener_in, row_checks}
+use Rattle.server.specs.Receiving.{listener_in, receive_checks}
 
 module _ {S : Type 0} (above : S → S → Bool) (f : ℕ → Listener S) (t : S) where
   -- one client more
@@ -115,17 +115,18 @@ pub none_failed : (o : Option Refusal) (u : Unit) → passed_checks o ≡ Ok u �
 none_failed None u e = refl
 none_failed (Some x) u e = let z : ◌≡◌ {A = ℕ} 0 1 = cc in absurd (omega arith)
 
--- where neither a check of the row nor one of sending fails, the client is in the row and there is room for what is sent
-pub checks_passed : (net : Network) (room clients client sending : ℕ)
-    → first_failed (row_checks clients client) ≡ None → first_failed (send_checks net room sending) ≡ None
+-- where no check of a received message fails, its client is in the row and there is room for what is sent
+pub checks_passed : (net : Network) (room clients client sending : ℕ) → first_failed (receive_checks net room clients client sending) ≡ None
     → (clients ≤ 64) × (client < clients) × Room net room sending
-checks_passed net room clients client sending known admitted =
-    let row = passes_first (ltb 64 clients || leb clients client) Memory [] known in
-    let memory = passes_first (not (fits net room)) Memory ((is_some net.lifted, TokenOut) ∷ ((ltb (net.capacity - net.len) sending, NetworkFull) ∷ [])) admitted in
+checks_passed net room clients client sending passed =
+    let unlimited = ltb 64 clients || leb clients client in
+    let memory = passes_first (not (fits net room) || unlimited) Memory
+    ((is_some net.lifted, TokenOut) ∷ ((ltb (net.capacity - net.len) sending, NetworkFull) ∷ [])) passed in
     let token = passes_first (is_some net.lifted) TokenOut ((ltb (net.capacity - net.len) sending, NetworkFull) ∷ []) memory.1 in
     let full = passes_first (ltb (net.capacity - net.len) sending) NetworkFull [] token.1 in
-    let limits = or_parts (ltb 64 clients) (leb clients client) row.0 in
-    let fitting : fits net room ≡ true = not-false (fits net room) memory.0 in
+    let either = or_parts (not (fits net room)) unlimited memory.0 in
+    let limits = or_parts (ltb 64 clients) (leb clients client) either.1 in
+    let fitting : fits net room ≡ true = not-false (fits net room) either.0 in
     let parts = and_parts (sized net.capacity room) (leb net.len net.capacity && below net.lifted net.len) fitting in
     let inner = and_parts (leb net.len net.capacity) (below net.lifted net.len) parts.1 in (
       ltb-false 64 clients limits.0,

@@ -4,7 +4,7 @@ ghost use Rattle.calls.specs.Refusals.{first_failed, passed};
 ghost use Rattle.network.specs.Kinds.{kind_of};
 ghost use Rattle.network.specs.Queues.{Room, Sent};
 ghost use Rattle.server.specs.Serving.{on_query, on_store, on_read, on_stop, by_kind, reaction};
-ghost use Rattle.server.specs.Receiving.{state_of, Reacted, row_checks, reacts, Received};
+ghost use Rattle.server.specs.Receiving.{state_of, Reacted, row_checks, receive_checks, reacts, Received};
 
 use crate::listeners::{Arrival, count_wanting, listener_of};
 use crate::sending::{pass_on, reply, send};
@@ -51,8 +51,13 @@ impl<S: Timestamp, V: Value> Server<S, V> {
         ensures { Received S.above S.lowest V.initial_value faulty self.old listeners.old network.old memory.old message result self.new listeners.new network.new memory.new }
     {
         let sending = self.replies(listeners, message, faulty);
-        check_row(listeners.len(), message.client)?;
-        network.admits(memory.len(), sending)?;
+        check_receipt(
+            *network,
+            memory.len(),
+            listeners.len(),
+            message.client,
+            sending,
+        )?;
         if !faulty {
             let mut arrival = Arrival::new(listeners, &message);
             self.react(&mut arrival, network, memory);
@@ -190,6 +195,20 @@ impl<S: Timestamp, V: Value> Server<S, V> {
             });
         }
     }
+}
+
+// Refuses a message for whose row, or for what is sent on it, the limits, the memory or the room do not suffice.
+fn check_receipt(
+    network: Network,
+    room: usize,
+    clients: usize,
+    client: u8,
+    sending: usize,
+) -> Result<(), Refusal>
+    ensures { result ≡ passed (first_failed (receive_checks network room clients client sending)) }
+{
+    check_row(clients, client)?;
+    network.admits(room, sending)
 }
 
 // Refuses a client that is not in a row of so many clients, and a row that is not within the limits.

@@ -11,8 +11,8 @@ loop-report-preserved g c =
     let xs = c.loop-report.part in
     let lt : i < length xs = omega arith in
     below_more _ _
-    (λ k h. let ne : k ≢ i = omega arith in get_or-set_other xs i k None None ne ∙ c.loop-report.invariant k h)
-    (get_or-set_same xs i None None lt)
+    (λ k h. let ne : k ≢ i = omega arith in get_or-set_other xs i k c.erase.new.report None ne ∙ c.loop-report.invariant k h)
+    (get_or-set_same xs i c.erase.new.report None lt ∙ c.erase.ensures)
 
 pub returns : goal.returns
 returns g c =
