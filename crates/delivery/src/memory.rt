@@ -24,12 +24,12 @@ impl<S, V> Memory<'_, S, V> {
     pub fn sizes(&self) -> Sizes
         ensures { result ≡ sizes_of (contents self.now) }
     {
-        Sizes {
-            servers: self.servers.len(),
-            clients: self.clients.len(),
-            listeners: self.listeners.len(),
-            messages: self.messages.len(),
-            reports: self.reports.len(),
-        }
+        Sizes::of(
+            self.servers,
+            self.clients,
+            self.listeners,
+            self.messages,
+            self.reports,
+        )
     }
 }

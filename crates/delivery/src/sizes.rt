@@ -1,10 +1,14 @@
 // How much memory is lent to a register, and whether it is enough.
 ghost use Rattle.std.specs.Prelude.{◌≡◌, ◌≤◌};
+ghost use Rattle.delivery.specs.Memory.{lent, sizes_of};
 ghost use Rattle.delivery.specs.Sizes.{within_limits, room_for, enough_for};
 
+use client::state::Client;
+use network::message::Message;
 use network::queue::Network;
-use reading::reports::entries_for;
+use reading::reports::{Report, entries_for};
 use server::receive::MOST_CLIENTS;
+use server::state::{Listener, Server};
 
 // How many entries a memory has of each kind.
 #[derive(Clone, Copy, PartialEq, Eq, Debug)]
@@ -17,6 +21,26 @@ pub struct Sizes {
 }
 
 impl Sizes {
+    // The sizes of five slices.
+    // Kept: one by one, each lent for reading alone, since a struct of exclusive loans would ask more of callers.
+    pub fn of<S, V>(
+        servers: &[Server<S, V>],
+        clients: &[Client<S, V>],
+        listeners: &[Listener<S>],
+        messages: &[Message<S, V>],
+        reports: &[Report<S, V>],
+    ) -> Sizes
+        ensures { result ≡ sizes_of (lent servers.now clients.now listeners.now messages.now reports.now) }
+    {
+        Sizes {
+            servers: servers.len(),
+            clients: clients.len(),
+            listeners: listeners.len(),
+            messages: messages.len(),
+            reports: reports.len(),
+        }
+    }
+
     // Whether there is room for n servers, m clients, and what they keep of one another.
     fn hold(self, n: u8, m: usize) -> bool
         requires { m ≤ 64 }

@@ -1,8 +1,8 @@
 -- A client begins an operation: the register's reply. Assumes nothing.
-use Rattle.std.proofs.Common.{◌≡◌, ℕ, ◌+◌, ◌-◌, ◌*◌, ◌<◌, ◌≤◌, Bool, true, cond, not, ltb, leb, List, [], ◌∷◌, ◌++◌, length, take, drop, Some, None, Option, sym, refl, ap, ◌∙◌, subst, ap₂, arith}
+use Rattle.std.proofs.Common.{◌≡◌, ℕ, ◌+◌, ◌-◌, ◌*◌, ◌<◌, ◌≤◌, Bool, true, cond, not, ltb, leb, List, [], ◌∷◌, ◌++◌, length, take, drop, Some, None, Err, Option, sym, refl, ap, ◌∙◌, subst, ap₂, arith}
 use Rattle.std.proofs.lemmas.List.{length-take-le}
 use Rattle.std.proofs.lemmas.Bool.{ltb-false, lt-ltb, le-ltb}
-use Rattle.calls.specs.Refusals.{first_failed}
+use Rattle.calls.specs.Refusals.{first_failed, passed}
 use Rattle.calls.proofs.Checks.{passes_first}
 use Rattle.calls.specs.declared.Answer.{Answer}
 use Rattle.calls.specs.declared.Answer.TheVariants.{Refused, Begun}
@@ -27,7 +27,7 @@ use Rattle.register.specs.declared.record.Register.{Register}
 use Rattle.register.specs.Calling.{with_queue, network_of, state_of, Replied}
 use Rattle.register.specs.Beginning.{client_refuses, BegunBy, BlankFor}
 use Rattle.register.proofs.Enough.{parts, still_enough, room_left}
-use Rattle.register.proofs.Replies.{accepted, refusing}
+use Rattle.register.proofs.Replies.{one_refuses, accepted, refusing}
 
 -- at most one message goes to each server
 sending_few : {S V : Type 0} (n : ℕ) (d : Option (Broadcast S V)) → sending n d ≤ n
@@ -59,6 +59,13 @@ module _ {Q S V : Type 0} (K : Setting S V) (g : Register Q) (x : Lent S V) (muc
       ∷ ((ltb (K.capacity - length (take g.len x.messages)) K.rules.n, NetworkFull) ∷ [])))))
       (state_of K g x) (by_outcome K (state_of K g x) c (state_of K g x).queue o)) (Refused NoClient) g x in
       subst P (sym (le-ltb c K.client_count outside)) (refusing K g x NoClient much)
+
+  -- refused, since there is no such client
+  pub client_lacking : (o : protocol.Outcome S V) (e : Refusal) → passed (first_failed ((not (ltb c K.client_count), NoClient) ∷ [])) ≡ Err e
+      → Replied K g x (begin K (state_of K g x) c o) (Refused e) g x
+  client_lacking o e was =
+      let w = one_refuses (ltb c K.client_count) NoClient e was in
+      subst (λ d. Replied K g x (begin K (state_of K g x) c o) (Refused d) g x) (sym w.1) (client_missing (ltb-false c K.client_count w.0) o)
 
   module _ (inside : c < K.client_count) (o : protocol.Outcome S V) (cs : List (Client S V)) (ps : List (Report S V)) where
     -- the client refuses

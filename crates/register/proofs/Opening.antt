@@ -1,8 +1,13 @@
 -- The memory of a register just opened. Assumes nothing.
-use Rattle.std.proofs.Common.{◌≡◌, ℕ, ◌+◌, ◌-◌, ◌*◌, ◌<◌, ◌≤◌, Bool, true, ltb, List, [], ◌∷◌, ◌++◌, length, get_or, take, drop, set, replicate, sym, refl, ap, ◌∙◌, ap₂, inl, inr, arith}
+use Rattle.std.proofs.Common.{◌≡◌, ℕ, ◌+◌, ◌-◌, ◌*◌, ◌<◌, ◌≤◌, Bool, true, ltb, List, [], ◌∷◌, ◌++◌, length, get_or, take, drop, set, replicate, Err, Result, not, sym, refl, ap, ◌∙◌, subst, ap₂, inl, inr, arith}
 use mathlib.Core.Path.{fun_ext}
+use Rattle.std.specs.Result.{IsErrAnd}
 use Rattle.std.proofs.lemmas.List.{get_or_append_left, get_or-replicate, get_or-take, get_or-drop, get_or_past, length-take, length-replicate, length-append, length-drop, set-append_right, drop_more, replicate_more, append_assoc}
 use Rattle.std.proofs.lemmas.Bool.{cases_lt, cond-true, cond-false, lt-ltb, le-ltb}
+use Rattle.calls.specs.Refusals.{first_failed, passed}
+use Rattle.calls.specs.declared.Refusal.{Refusal}
+use Rattle.calls.specs.declared.Refusal.TheVariants.{Memory}
+use Rattle.calls.proofs.Refusing.{err_as}
 use Rattle.server.specs.Serving.{silent}
 use Rattle.server.specs.Receiving.{listener_in, state_of}
 use Rattle.server.specs.declared.state.Listener.{Listener}
@@ -18,8 +23,9 @@ use Rattle.protocol.specs.Settings.{Setting}
 use Rattle.delivery.specs.Memory.{Lent, lent, part, new_server, new_client, servers_of, clients_of, enough}
 use Rattle.delivery.proofs.Parts.{part_end}
 use Rattle.register.specs.declared.record.Register.{Register}
-use Rattle.register.specs.Calling.{OpenedWith}
+use Rattle.register.specs.Calling.{OpenedWith, Opened}
 use Rattle.register.proofs.Enough.{parts, still_enough}
+use Rattle.register.proofs.Replies.{one_refuses}
 
 -- one entry more is set
 pub reset_more : {A : Type 0} (old : List A) (i : ℕ) (v : A) → i < length old → set (replicate i v ++ drop i old) i v ≡ replicate (i + 1) v ++ drop (i + 1) old
@@ -96,6 +102,13 @@ module _ {S V : Type 0} (above : S → S → Bool) (lowest : S) (initial : V) (n
             cond-false (ltb c m) (client_of (get_or (replicate m (new_client lowest) ++ others) c (new_client lowest)) (view above (lowest, initial) n (part (n * (n + 1)) reports c)))
             (client_of (new_client lowest) (unread lowest initial)) (le-ltb c m outside)
       ]
+
+-- memory that is not enough
+pub not_opened : {Q S V : Type 0} (K : Setting S V) (system : Q) (x : Lent S V) (r : Result (Register Q) Refusal) (e : Refusal)
+    → passed (first_failed ((not (enough K 0 x), Memory) ∷ [])) ≡ Err e → IsErrAnd r (λ d. d ≡ e) → Opened K system x r x
+not_opened K system x r e was is =
+    let w = one_refuses (enough K 0 x) Memory e was in
+    subst (λ a. Opened K system x a x) (sym (err_as r e is)) (w.0, w.1, refl)
 
 -- memory that is enough, with its servers, clients and listeners set up
 module _ {Q S V : Type 0} (K : Setting S V) (system : Q) (x : Lent S V) (much : enough K 0 x ≡ true) where

@@ -1,6 +1,7 @@
 -- Replies of a register, accepted and refused. Assumes nothing.
-use Rattle.std.proofs.Common.{◌≡◌, ℕ, true, false, refl}
+use Rattle.std.proofs.Common.{◌≡◌, ℕ, Bool, true, false, not, [], ◌∷◌, Err, sym, refl, subst, arith}
 use Rattle.std.proofs.lemmas.Bool.{both_ways}
+use Rattle.calls.specs.Refusals.{first_failed, passed}
 use Rattle.calls.specs.declared.Answer.{Answer}
 use Rattle.calls.specs.declared.Answer.TheVariants.{Refused}
 use Rattle.calls.specs.declared.Refusal.{Refusal}
@@ -11,6 +12,11 @@ use Rattle.delivery.specs.Memory.{Lent, enough}
 use Rattle.delivery.specs.Answering.{Rest, Answered}
 use Rattle.register.specs.declared.record.Register.{Register}
 use Rattle.register.specs.Calling.{with_queue, state_of, Replied}
+
+-- the one check refuses
+pub one_refuses : (b : Bool) (e d : Refusal) → passed (first_failed ((not b, e) ∷ [])) ≡ Err d → (b ≡ false) × (d ≡ e)
+one_refuses true e d is = let z : ◌≡◌ {A = ℕ} 0 1 = cc in absurd (omega arith)
+one_refuses false e d is = (refl, cc)
 
 -- the rest of memory that stays
 pub rest_same : {S V : Type 0} (K : Setting S V) (len : ℕ) (x : Lent S V) → Rest K len x x
@@ -26,6 +32,12 @@ module _ {Q S V : Type 0} (K : Setting S V) (g : Register Q) (x : Lent S V) wher
     };
     setting_kept = refl;
   }
+
+  -- refused, since the memory does not suffice
+  pub lacking : (reply : Reply S V) (e : Refusal) → passed (first_failed ((not (enough K g.len x), Memory) ∷ [])) ≡ Err e → Replied K g x reply (Refused e) g x
+  lacking reply e was =
+      let w = one_refuses (enough K g.len x) Memory e was in
+      subst (λ d. Replied K g x reply (Refused d) g x) (sym w.1) (short reply w.0)
 
   -- answered as the protocol replies
   pub accepted : (reply : Reply S V) (r : Answer S V) (g' : Register Q) (x' : Lent S V) → enough K g.len x ≡ true

@@ -45,10 +45,41 @@ impl<Q: QuorumSystem> Register<Q> {
         ensures answers { Answers (kinds Q.QuorumSystem S.Timestamp V.Value self.old) self.old (contents memory.old) call result self.new (contents memory.new) }
     {
         match call {
-            Call::Write { client, value } => self.write(memory, client, value),
-            Call::Read { client } => self.read(memory, client),
+            Call::Write { client, value } => {
+                let servers = &mut *memory.servers;
+                let listeners = &mut *memory.listeners;
+                let reports = &mut *memory.reports;
+                self.write(
+                    servers,
+                    memory.clients,
+                    listeners,
+                    memory.messages,
+                    reports,
+                    client,
+                    value,
+                )
+            }
+            Call::Read { client } => {
+                let servers = &mut *memory.servers;
+                let listeners = &mut *memory.listeners;
+                self.read(
+                    servers,
+                    memory.clients,
+                    listeners,
+                    memory.messages,
+                    memory.reports,
+                    client,
+                )
+            }
             Call::Deliver { place } => self.deliver(memory, place),
-            Call::Turn { server } => self.turn(memory, server),
+            Call::Turn { server } => {
+                let servers = &mut *memory.servers;
+                let clients = &mut *memory.clients;
+                let listeners = &mut *memory.listeners;
+                let messages = &mut *memory.messages;
+                let reports = &mut *memory.reports;
+                self.turn(servers, clients, listeners, messages, reports, server)
+            }
             Call::Forge {
                 server,
                 client,
@@ -65,7 +96,18 @@ impl<Q: QuorumSystem> Register<Q> {
                     timestamp,
                     value,
                 };
-                self.forge(memory, message)
+                let servers = &mut *memory.servers;
+                let clients = &mut *memory.clients;
+                let listeners = &mut *memory.listeners;
+                let reports = &mut *memory.reports;
+                self.forge(
+                    servers,
+                    clients,
+                    listeners,
+                    memory.messages,
+                    reports,
+                    message,
+                )
             }
         }
     }

@@ -6,17 +6,19 @@ ghost use Rattle.calls.specs.declared.Call.TheVariants.{Turn, Forge};
 ghost use Rattle.network.specs.Kinds.{kind_of};
 ghost use Rattle.network.specs.Queues.{Room};
 ghost use Rattle.protocol.specs.Protocol.{may_be_sent};
-ghost use Rattle.delivery.specs.Memory.{SameLoans, contents};
+ghost use Rattle.delivery.specs.Memory.{lent};
 ghost use Rattle.register.specs.Calling.{kinds, network_of, with_queue, Answers};
 ghost use Rattle.register.specs.Faults.{turn_refusal, forge_refusal};
 
 use crate::record::Register;
 use calls::{Answer, Refusal};
+use client::state::Client;
 use delivery::deliver::is_from_server;
-use delivery::memory::Memory;
 use network::message::{Kind, Message};
 use quorums::QuorumSystem;
 use quorums::sets::ServerSet;
+use reading::reports::Report;
+use server::state::{Listener, Server};
 use timestamps::Timestamp;
 use values::Value;
 
@@ -44,22 +46,30 @@ impl<Q: QuorumSystem> Register<Q> {
     // A server is faulty from now on; a second time it does nothing.
     pub fn turn<S: Timestamp, V: Value>(
         &mut self,
-        memory: &Memory<'_, S, V>,
+        servers: &[Server<S, V>],
+        clients: &[Client<S, V>],
+        listeners: &[Listener<S>],
+        messages: &[Message<S, V>],
+        reports: &[Report<S, V>],
         server: u8,
     ) -> Answer<S, V>
-        ensures { Answers (kinds Q.QuorumSystem S.Timestamp V.Value self.old) self.old (contents memory.now) (Turn server) result self.new (contents memory.now) }
+        ensures { Answers (kinds Q.QuorumSystem S.Timestamp V.Value self.old) self.old (lent servers.now clients.now listeners.now messages.now reports.now) (Turn server) result self.new (lent servers.now clients.now listeners.now messages.now reports.now) }
     {
-        Answer::from(self.try_turn(memory, server))
+        Answer::from(self.try_turn(servers, clients, listeners, messages, reports, server))
     }
 
     fn try_turn<S: Timestamp, V: Value>(
         &mut self,
-        memory: &Memory<'_, S, V>,
+        servers: &[Server<S, V>],
+        clients: &[Client<S, V>],
+        listeners: &[Listener<S>],
+        messages: &[Message<S, V>],
+        reports: &[Report<S, V>],
         server: u8,
     ) -> Result<Answer<S, V>, Refusal>
-        ensures { Answers (kinds Q.QuorumSystem S.Timestamp V.Value self.old) self.old (contents memory.now) (Turn server) (answer_of result) self.new (contents memory.now) }
+        ensures { Answers (kinds Q.QuorumSystem S.Timestamp V.Value self.old) self.old (lent servers.now clients.now listeners.now messages.now reports.now) (Turn server) (answer_of result) self.new (lent servers.now clients.now listeners.now messages.now reports.now) }
     {
-        self.check_memory(memory)?;
+        self.check_memory(servers, clients, listeners, messages, reports)?;
         let faulty = self.faulty.with(server);
         self.check_turn(server, faulty)?;
         self.faulty = faulty;
@@ -104,34 +114,32 @@ impl<Q: QuorumSystem> Register<Q> {
     // A faulty server sends a message, with all fields as given.
     pub fn forge<S: Timestamp, V: Value>(
         &mut self,
-        memory: &mut Memory<'_, S, V>,
+        servers: &[Server<S, V>],
+        clients: &[Client<S, V>],
+        listeners: &[Listener<S>],
+        messages: &mut [Message<S, V>],
+        reports: &[Report<S, V>],
         message: Message<S, V>,
     ) -> Answer<S, V>
-        ensures loans { SameLoans memory.old memory.new }
-        ensures servers { memory.new.servers.now ≡ memory.old.servers.now }
-        ensures clients { memory.new.clients.now ≡ memory.old.clients.now }
-        ensures listeners { memory.new.listeners.now ≡ memory.old.listeners.now }
-        ensures reports { memory.new.reports.now ≡ memory.old.reports.now }
-        ensures answers { Answers (kinds Q.QuorumSystem S.Timestamp V.Value self.old) self.old (contents memory.old) (Forge message.server message.client message.kind message.number message.timestamp message.value) result self.new (contents memory.new) }
+        ensures { Answers (kinds Q.QuorumSystem S.Timestamp V.Value self.old) self.old (lent servers.now clients.now listeners.now messages.old reports.now) (Forge message.server message.client message.kind message.number message.timestamp message.value) result self.new (lent servers.now clients.now listeners.now messages.new reports.now) }
     {
-        Answer::from(self.try_forge(memory, message))
+        Answer::from(self.try_forge(servers, clients, listeners, messages, reports, message))
     }
 
     fn try_forge<S: Timestamp, V: Value>(
         &mut self,
-        memory: &mut Memory<'_, S, V>,
+        servers: &[Server<S, V>],
+        clients: &[Client<S, V>],
+        listeners: &[Listener<S>],
+        messages: &mut [Message<S, V>],
+        reports: &[Report<S, V>],
         message: Message<S, V>,
     ) -> Result<Answer<S, V>, Refusal>
-        ensures loans { SameLoans memory.old memory.new }
-        ensures servers { memory.new.servers.now ≡ memory.old.servers.now }
-        ensures clients { memory.new.clients.now ≡ memory.old.clients.now }
-        ensures listeners { memory.new.listeners.now ≡ memory.old.listeners.now }
-        ensures reports { memory.new.reports.now ≡ memory.old.reports.now }
-        ensures answers { Answers (kinds Q.QuorumSystem S.Timestamp V.Value self.old) self.old (contents memory.old) (Forge message.server message.client message.kind message.number message.timestamp message.value) (answer_of result) self.new (contents memory.new) }
+        ensures { Answers (kinds Q.QuorumSystem S.Timestamp V.Value self.old) self.old (lent servers.now clients.now listeners.now messages.old reports.now) (Forge message.server message.client message.kind message.number message.timestamp message.value) (answer_of result) self.new (lent servers.now clients.now listeners.now messages.new reports.now) }
     {
-        self.check_memory(memory)?;
+        self.check_memory(servers, clients, listeners, messages, reports)?;
         self.check_forging(message.server, message.client, message.kind)?;
-        self.post(memory.messages, message);
+        self.post(messages, message);
         Ok(Answer::Forged)
     }
 }

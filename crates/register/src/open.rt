@@ -1,15 +1,16 @@
 // A register is opened: its record, and its memory set up.
 ghost use Rattle.std.specs.Prelude.{◌≡◌, ◌*◌, ◌≤◌, ◌++◌, length, drop, replicate};
 ghost use Rattle.protocol.specs.Settings.{setting_of};
-ghost use Rattle.delivery.specs.Memory.{SameLoans, contents};
+ghost use Rattle.delivery.specs.Memory.{lent};
 ghost use Rattle.register.specs.Calling.{Opened};
 
 use crate::record::Register;
 use calls::Refusal;
 use client::state::Client;
-use delivery::memory::Memory;
+use network::message::Message;
 use quorums::QuorumSystem;
 use quorums::sets::ServerSet;
+use reading::reports::Report;
 use server::state::{Listener, Server};
 use timestamps::Timestamp;
 use values::Value;
@@ -36,14 +37,19 @@ fn listener_count(n: u8, m: usize) -> usize
 
 impl<Q: QuorumSystem> Register<Q> {
     // A register of m clients over this memory, with nothing under way. Messages and reports are left as they are.
+    // Kept: the slices one by one, here and in write, read, turn and forge, since a slice that a call only reads is lent for
+    // reading alone; a struct of exclusive loans would ask more of callers.
     pub fn open<S: Timestamp, V: Value>(
         system: Q,
         m: usize,
         capacity: usize,
-        memory: &mut Memory<'_, S, V>,
+        servers: &mut [Server<S, V>],
+        clients: &mut [Client<S, V>],
+        listeners: &mut [Listener<S>],
+        messages: &[Message<S, V>],
+        reports: &[Report<S, V>],
     ) -> Result<Register<Q>, Refusal>
-        ensures loans { SameLoans memory.old memory.new }
-        ensures opened { Opened (setting_of Q.QuorumSystem S.Timestamp V.Value system m capacity 4294967295) system (contents memory.old) result (contents memory.new) }
+        ensures { Opened (setting_of Q.QuorumSystem S.Timestamp V.Value system m capacity 4294967295) system (lent servers.old clients.old listeners.old messages.now reports.now) result (lent servers.new clients.new listeners.new messages.now reports.now) }
     {
         let register = Register {
             system,
@@ -52,11 +58,11 @@ impl<Q: QuorumSystem> Register<Q> {
             len: 0,
             faulty: ServerSet::empty(),
         };
-        register.check_memory(memory)?;
+        register.check_memory(servers, clients, listeners, messages, reports)?;
         let n = system.servers();
-        reset(memory.servers, n as usize, Server::initial());
-        reset(memory.clients, m, Client::initial());
-        reset(memory.listeners, listener_count(n, m), Listener::silent());
+        reset(servers, n as usize, Server::initial());
+        reset(clients, m, Client::initial());
+        reset(listeners, listener_count(n, m), Listener::silent());
         Ok(register)
     }
 }

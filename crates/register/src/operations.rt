@@ -5,17 +5,18 @@ ghost use Rattle.calls.specs.declared.Call.TheVariants.{Write, Read};
 ghost use Rattle.network.specs.Queues.{Room, Sent};
 ghost use Rattle.client.specs.Showing.{messages_of};
 ghost use Rattle.client.specs.Taking.{sending};
-ghost use Rattle.delivery.specs.Memory.{SameLoans, contents};
+ghost use Rattle.delivery.specs.Memory.{lent};
 ghost use Rattle.register.specs.Calling.{kinds, network_of, with_queue, Answers, ReadAnswers};
 
 use crate::begin::{begin_read_at, begin_write_at};
 use crate::record::Register;
 use calls::{Answer, Refusal};
-use client::state::Broadcast;
-use delivery::memory::Memory;
+use client::state::{Broadcast, Client};
 use network::message::Message;
 use network::queue::Network;
 use quorums::QuorumSystem;
+use reading::reports::Report;
+use server::state::{Listener, Server};
 use timestamps::Timestamp;
 use values::Value;
 
@@ -60,71 +61,75 @@ impl<Q: QuorumSystem> Register<Q> {
     // A client begins to write a value.
     pub fn write<S: Timestamp, V: Value>(
         &mut self,
-        memory: &mut Memory<'_, S, V>,
+        servers: &[Server<S, V>],
+        clients: &mut [Client<S, V>],
+        listeners: &[Listener<S>],
+        messages: &mut [Message<S, V>],
+        reports: &[Report<S, V>],
         client: u8,
         value: V,
     ) -> Answer<S, V>
-        ensures loans { SameLoans memory.old memory.new }
-        ensures servers { memory.new.servers.now ≡ memory.old.servers.now }
-        ensures listeners { memory.new.listeners.now ≡ memory.old.listeners.now }
-        ensures reports { memory.new.reports.now ≡ memory.old.reports.now }
-        ensures answers { Answers (kinds Q.QuorumSystem S.Timestamp V.Value self.old) self.old (contents memory.old) (Write client value) result self.new (contents memory.new) }
+        ensures { Answers (kinds Q.QuorumSystem S.Timestamp V.Value self.old) self.old (lent servers.now clients.old listeners.now messages.old reports.now) (Write client value) result self.new (lent servers.now clients.new listeners.now messages.new reports.now) }
     {
-        Answer::from(self.try_write(memory, client, value))
+        Answer::from(self.try_write(
+            servers, clients, listeners, messages, reports, client, value,
+        ))
     }
 
     // Kept: a function beside the call, since ? needs a Result and a run takes an Answer of each call.
     fn try_write<S: Timestamp, V: Value>(
         &mut self,
-        memory: &mut Memory<'_, S, V>,
+        servers: &[Server<S, V>],
+        clients: &mut [Client<S, V>],
+        listeners: &[Listener<S>],
+        messages: &mut [Message<S, V>],
+        reports: &[Report<S, V>],
         client: u8,
         value: V,
     ) -> Result<Answer<S, V>, Refusal>
-        ensures loans { SameLoans memory.old memory.new }
-        ensures servers { memory.new.servers.now ≡ memory.old.servers.now }
-        ensures listeners { memory.new.listeners.now ≡ memory.old.listeners.now }
-        ensures reports { memory.new.reports.now ≡ memory.old.reports.now }
-        ensures answers { Answers (kinds Q.QuorumSystem S.Timestamp V.Value self.old) self.old (contents memory.old) (Write client value) (answer_of result) self.new (contents memory.new) }
+        ensures { Answers (kinds Q.QuorumSystem S.Timestamp V.Value self.old) self.old (lent servers.now clients.old listeners.now messages.old reports.now) (Write client value) (answer_of result) self.new (lent servers.now clients.new listeners.now messages.new reports.now) }
     {
-        self.check_memory(memory)?;
+        self.check_memory(servers, clients, listeners, messages, reports)?;
         self.check_client(client)?;
         let room = self.room();
-        let begun = begin_write_at(&self.system, memory.clients, client, value, room)?;
+        let begun = begin_write_at(&self.system, clients, client, value, room)?;
         let (answer, broadcast) = begun;
-        self.send(memory.messages, client, broadcast);
+        self.send(messages, client, broadcast);
         Ok(answer)
     }
 
     // A client begins to read.
     pub fn read<S: Timestamp, V: Value>(
         &mut self,
-        memory: &mut Memory<'_, S, V>,
+        servers: &[Server<S, V>],
+        clients: &mut [Client<S, V>],
+        listeners: &[Listener<S>],
+        messages: &mut [Message<S, V>],
+        reports: &mut [Report<S, V>],
         client: u8,
     ) -> Answer<S, V>
-        ensures loans { SameLoans memory.old memory.new }
-        ensures servers { memory.new.servers.now ≡ memory.old.servers.now }
-        ensures listeners { memory.new.listeners.now ≡ memory.old.listeners.now }
-        ensures answers { ReadAnswers (kinds Q.QuorumSystem S.Timestamp V.Value self.old) self.old (contents memory.old) client result self.new (contents memory.new) }
+        ensures { ReadAnswers (kinds Q.QuorumSystem S.Timestamp V.Value self.old) self.old (lent servers.now clients.old listeners.now messages.old reports.old) client result self.new (lent servers.now clients.new listeners.now messages.new reports.new) }
     {
-        Answer::from(self.try_read(memory, client))
+        Answer::from(self.try_read(servers, clients, listeners, messages, reports, client))
     }
 
     fn try_read<S: Timestamp, V: Value>(
         &mut self,
-        memory: &mut Memory<'_, S, V>,
+        servers: &[Server<S, V>],
+        clients: &mut [Client<S, V>],
+        listeners: &[Listener<S>],
+        messages: &mut [Message<S, V>],
+        reports: &mut [Report<S, V>],
         client: u8,
     ) -> Result<Answer<S, V>, Refusal>
-        ensures loans { SameLoans memory.old memory.new }
-        ensures servers { memory.new.servers.now ≡ memory.old.servers.now }
-        ensures listeners { memory.new.listeners.now ≡ memory.old.listeners.now }
-        ensures answers { ReadAnswers (kinds Q.QuorumSystem S.Timestamp V.Value self.old) self.old (contents memory.old) client (answer_of result) self.new (contents memory.new) }
+        ensures { ReadAnswers (kinds Q.QuorumSystem S.Timestamp V.Value self.old) self.old (lent servers.now clients.old listeners.now messages.old reports.old) client (answer_of result) self.new (lent servers.now clients.new listeners.now messages.new reports.new) }
     {
-        self.check_memory(memory)?;
+        self.check_memory(servers, clients, listeners, messages, reports)?;
         self.check_client(client)?;
         let room = self.room();
-        let begun = begin_read_at(&self.system, memory.clients, memory.reports, client, room)?;
+        let begun = begin_read_at(&self.system, clients, reports, client, room)?;
         let (answer, broadcast) = begun;
-        self.send(memory.messages, client, broadcast);
+        self.send(messages, client, broadcast);
         Ok(answer)
     }
 }

@@ -2,13 +2,17 @@
 ghost use Rattle.std.specs.Prelude.{◌≡◌, not, [], ◌∷◌, nat_lt};
 ghost use Rattle.calls.specs.Refusals.{first_failed, passed};
 ghost use Rattle.calls.specs.declared.Refusal.TheVariants.{Memory as TooShort, NoClient};
-ghost use Rattle.delivery.specs.Memory.{contents, sizes_of};
+ghost use Rattle.delivery.specs.Memory.{lent, sizes_of};
 ghost use Rattle.delivery.specs.Sizes.{enough_for};
 
 use calls::Refusal;
-use delivery::memory::Memory;
+use client::state::Client;
+use delivery::sizes::Sizes;
+use network::message::Message;
 use quorums::QuorumSystem;
 use quorums::sets::ServerSet;
+use reading::reports::Report;
+use server::state::{Listener, Server};
 
 // The quorum system, how many clients there are, how many messages the queue may hold, how many it holds, and the
 // servers that are faulty.
@@ -24,14 +28,19 @@ pub struct Register<Q> {
 
 impl<Q: QuorumSystem> Register<Q> {
     // The record is within the limits and goes with this memory.
-    pub(crate) fn check_memory<S, V>(&self, memory: &Memory<'_, S, V>) -> Result<(), Refusal>
-        ensures { result ≡ passed (first_failed ((not (enough_for (Q.size self.now.system) self.now.clients self.now.capacity self.now.len (sizes_of (contents memory.now))), TooShort) ∷ [])) }
+    pub(crate) fn check_memory<S, V>(
+        &self,
+        servers: &[Server<S, V>],
+        clients: &[Client<S, V>],
+        listeners: &[Listener<S>],
+        messages: &[Message<S, V>],
+        reports: &[Report<S, V>],
+    ) -> Result<(), Refusal>
+        ensures { result ≡ passed (first_failed ((not (enough_for (Q.size self.now.system) self.now.clients self.now.capacity self.now.len (sizes_of (lent servers.now clients.now listeners.now messages.now reports.now))), TooShort) ∷ [])) }
     {
         let n = self.system.servers();
-        if !memory
-            .sizes()
-            .suffice(n, self.clients, self.capacity, self.len)
-        {
+        let sizes = Sizes::of(servers, clients, listeners, messages, reports);
+        if !sizes.suffice(n, self.clients, self.capacity, self.len) {
             return Err(Refusal::Memory);
         }
         Ok(())

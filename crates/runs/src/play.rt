@@ -58,7 +58,18 @@ pub fn play<Q: QuorumSystem, S: Timestamp, V: Value>(
     if answers.len() < calls.len() {
         return Err(Refusal::Memory);
     }
-    let mut register = Register::open(system, m, capacity, memory)?;
+    let messages = &mut *memory.messages;
+    let reports = &mut *memory.reports;
+    let mut register = Register::open(
+        system,
+        m,
+        capacity,
+        memory.servers,
+        memory.clients,
+        memory.listeners,
+        messages,
+        reports,
+    )?;
     play_all(&mut register, memory, calls, answers);
     Ok(register)
 }

@@ -106,7 +106,7 @@ pub(crate) fn client(number: u32, phase: Phase<Packed, Total>) -> Client<Packed,
 }
 
 // So many of the first entries, or all where there are fewer.
-fn first<T>(entries: &mut [T], count: usize) -> &mut [T] {
+pub(crate) fn first<T>(entries: &mut [T], count: usize) -> &mut [T] {
     let count = count.min(entries.len());
     &mut entries[..count]
 }

@@ -6,6 +6,8 @@ mod fixture;
 #[cfg(test)]
 mod garbage;
 #[cfg(test)]
+mod lending;
+#[cfg(test)]
 mod opening;
 #[cfg(test)]
 mod reading_on;

@@ -1,5 +1,5 @@
 // How a register is opened, and what is refused.
-use crate::fixture::{CAPACITY, Fixture, Lent, WHOLE, holds, note, one_short};
+use crate::fixture::{CAPACITY, Fixture, Lent, WHOLE, first, holds, note, one_short};
 use crate::steps::{Reply, begun, read};
 use calls::{Answer, Refusal};
 use client::state::Client;
@@ -12,15 +12,32 @@ use register::record::Register;
 use server::state::{Listener, Server};
 use std::test::*;
 
-// Opens a register of two clients with so many entries of each kind lent.
-fn opening(fixture: &mut Fixture, sizes: Sizes) -> Result<(), Refusal> {
-    fixture.register = Register::open(
-        fixture.register.system,
+// So many of the first entries, or all where there are fewer, for reading alone.
+fn part<T>(entries: &[T], count: usize) -> &[T] {
+    let count = count.min(entries.len());
+    &entries[..count]
+}
+
+// Opens a register of two clients with so many entries of each kind lent, messages and reports for reading alone: the
+// register and its memory afterwards, and whether it was opened.
+fn opening(before: Fixture, sizes: Sizes) -> (Fixture, Result<(), Refusal>) {
+    let messages = before.lent.messages;
+    let reports = before.lent.reports;
+    let mut lent = before.lent;
+    let opened = Register::open(
+        before.register.system,
         2,
         CAPACITY,
-        &mut fixture.lent.memory(sizes),
-    )?;
-    Ok(())
+        first(&mut lent.servers, sizes.servers),
+        first(&mut lent.clients, sizes.clients),
+        first(&mut lent.listeners, sizes.listeners),
+        part(&messages, sizes.messages),
+        part(&reports, sizes.reports),
+    );
+    match opened {
+        Ok(register) => (Fixture { register, lent }, Ok(())),
+        Err(refusal) => (Fixture { lent, ..before }, Err(refusal)),
+    }
 }
 
 // A register in the midst of its work.
@@ -45,37 +62,51 @@ fn used() -> Result<Fixture, Fail> {
 #[test]
 fn memory_one_entry_short_is_refused(rt: HostRuntime) -> Result<(), Fail> {
     for sizes in one_short() {
-        let mut fixture = used()?;
-        let before = fixture;
-        assert_eq!(rt; opening(&mut fixture, sizes), Err(Refusal::Memory));
-        fixture.is(&rt, &before);
+        let before = used()?;
+        let (after, opened) = opening(before, sizes);
+        assert_eq!(rt; opened, Err(Refusal::Memory));
+        after.is(&rt, &before);
     }
     Ok(())
 }
 
 #[test]
 fn opened_register_is_new_and_leaves_messages_and_reports(rt: HostRuntime) -> Result<(), Fail> {
-    let mut fixture = used()?;
-    assert_eq!(rt; opening(&mut fixture, WHOLE), Ok(()));
-    fixture.is(&rt, &Fixture::new()?);
+    let (after, opened) = opening(used()?, WHOLE);
+    assert_eq!(rt; opened, Ok(()));
+    after.is(&rt, &Fixture::new()?);
     Ok(())
 }
 
 // Opens a register of one server with memory for 65 clients and 4,097 messages; where it opens, makes a record of
 // these sizes and asks for a read of client 0.
 fn in_much_memory(m: usize, capacity: usize, later: (usize, usize)) -> Result<Reply, Refusal> {
-    let mut memory = Memory {
-        servers: &mut [Server::initial(); 1],
-        clients: &mut [Client::initial(); 65],
-        listeners: &mut [Listener::silent(); 65],
-        messages: &mut [note(0, 0, 0, 0, 0, 0); 4097],
-        reports: &mut [None; 130],
-    };
-    let opened = Register::open(Threshold::open(1, 0)?, m, capacity, &mut memory)?;
+    let mut servers = [Server::initial(); 1];
+    let mut clients = [Client::initial(); 65];
+    let mut listeners = [Listener::silent(); 65];
+    let mut messages = [note(0, 0, 0, 0, 0, 0); 4097];
+    let mut reports = [None; 130];
+    let opened = Register::open(
+        Threshold::open(1, 0)?,
+        m,
+        capacity,
+        &mut servers,
+        &mut clients,
+        &mut listeners,
+        &messages,
+        &reports,
+    )?;
     let mut register = Register {
         clients: later.0,
         capacity: later.1,
         ..opened
+    };
+    let mut memory = Memory {
+        servers: &mut servers,
+        clients: &mut clients,
+        listeners: &mut listeners,
+        messages: &mut messages,
+        reports: &mut reports,
     };
     Ok(register.answer(&mut memory, read(0)))
 }

@@ -1,22 +1,71 @@
-use Rattle.std.proofs.Common.{◌<◌, sym, refl, ap, ◌∙◌, subst}
+use Rattle.std.proofs.Common.{◌+◌, ◌*◌, ◌<◌, sym, refl, ap, ◌∙◌, subst, arith}
 use Rattle.std.proofs.lemmas.Bool.{ltb-true}
 use Rattle.calls.specs.declared.Answer.{Answer}
 use Rattle.calls.proofs.Checks.{one_passes}
 use Rattle.calls.proofs.Refusing.{refused_as}
 use Rattle.protocol.specs.Clients.{begins_read}
-use Rattle.delivery.specs.Memory.{lent, contents}
+use Rattle.delivery.specs.Memory.{lent}
 use Rattle.delivery.specs.Parts.{clients_in}
+use Rattle.delivery.proofs.Parts.{part_end}
 use Rattle.register.specs.Beginning.{client_refuses}
 use Rattle.register.specs.Calling.{kinds, ReadAnswers}
-use Rattle.register.proofs.Begins.{begin_refused, begin_room, begun, blank_rest}
+use Rattle.register.proofs.Enough.{parts}
+use Rattle.register.proofs.Replies.{lacking}
+use Rattle.register.proofs.Begins.{client_lacking, begin_refused, begin_room, begun, blank_rest}
 use Rattle.register.proofs.ReadBegins.{read_refused, read_begun}
 use Rattle.register.proofs.record.Register.try_read.Goals as goal
 
-pub returns-in_err-begun-clause-answers : goal.returns-in_err-begun-clause-answers
-returns-in_err-begun-clause-answers g c =
+pub returns-in_err-check_memory : goal.returns-in_err-check_memory
+returns-in_err-check_memory g c =
     let h = c.args.self.now in
     let K = kinds g.Q.QuorumSystem g.S.Timestamp g.V.Value h in
-    let x = contents c.args.memory.now in
+    let x = lent c.args.servers.now c.args.clients.now c.args.listeners.now c.args.messages.now c.args.reports.now in
+    let e = c.in_err-check_memory.field-0.0 in
+    let P : Answer g.row.S.Denot g.row.V.Denot → Type 0 = λ a. ReadAnswers K h x c.args.client a h x in
+    subst P (sym (refused_as c.from_residual.result e c.from_residual.ensures.1))
+    (read_refused K h x c.args.client x (lacking K h x _ e (sym c.check_memory.ensures ∙ c.in_err-check_memory.was)))
+
+pub returns-in_err-check_client : goal.returns-in_err-check_client
+returns-in_err-check_client g c =
+    let h = c.args.self.now in
+    let K = kinds g.Q.QuorumSystem g.S.Timestamp g.V.Value h in
+    let x = lent c.args.servers.now c.args.clients.now c.args.listeners.now c.args.messages.now c.args.reports.now in
+    let u = c.args.client in
+    let much = one_passes _ _ _ (sym c.check_memory.ensures ∙ c.in_ok-check_memory.was) in
+    let e = c.in_err-check_client.field-0.0 in
+    let P : Answer g.row.S.Denot g.row.V.Denot → Type 0 = λ a. ReadAnswers K h x c.args.client a h x in
+    subst P (sym (refused_as c.from_residual-in_err-check_client.result e c.from_residual-in_err-check_client.ensures.1))
+    (read_refused K h x c.args.client x (client_lacking K h x much refl u _ e (sym c.check_client.ensures ∙ c.in_err-check_client.was)))
+
+pub begin_read_at-requires-clause-client : goal.begin_read_at-requires-clause-client
+begin_read_at-requires-clause-client g c =
+    let h = c.args.self.now in
+    let K = kinds g.Q.QuorumSystem g.S.Timestamp g.V.Value h in
+    let x = lent c.args.servers.now c.args.clients.now c.args.listeners.now c.args.messages.now c.args.reports.now in
+    let much = one_passes _ _ _ (sym c.check_memory.ensures ∙ c.in_ok-check_memory.was) in
+    let u = c.args.client in
+    let inside : u < h.clients = ltb-true u h.clients (one_passes _ _ _ (sym c.check_client.ensures ∙ c.in_ok-check_client.was)) in
+    let p = parts K h.len x much in
+    omega (arith, p.for_clients, inside)
+
+pub begin_read_at-requires-clause-part : goal.begin_read_at-requires-clause-part
+begin_read_at-requires-clause-part g c =
+    let h = c.args.self.now in
+    let K = kinds g.Q.QuorumSystem g.S.Timestamp g.V.Value h in
+    let x = lent c.args.servers.now c.args.clients.now c.args.listeners.now c.args.messages.now c.args.reports.now in
+    let much = one_passes _ _ _ (sym c.check_memory.ensures ∙ c.in_ok-check_memory.was) in
+    let u = c.args.client in
+    let inside : u < h.clients = ltb-true u h.clients (one_passes _ _ _ (sym c.check_client.ensures ∙ c.in_ok-check_client.was)) in
+    let n = K.rules.n in
+    let p = parts K h.len x much in
+    let e = part_end u h.clients (n * (n + 1)) inside in
+    omega (arith, e, p.for_reports)
+
+pub returns-in_err-begun : goal.returns-in_err-begun
+returns-in_err-begun g c =
+    let h = c.args.self.now in
+    let K = kinds g.Q.QuorumSystem g.S.Timestamp g.V.Value h in
+    let x = lent c.args.servers.now c.args.clients.now c.args.listeners.now c.args.messages.now c.args.reports.now in
     let u = c.args.client in
     let much = one_passes _ _ _ (sym c.check_memory.ensures ∙ c.in_ok-check_memory.was) in
     let inside : u < h.clients = ltb-true u h.clients (one_passes _ _ _ (sym c.check_client.ensures ∙ c.in_ok-check_client.was)) in
@@ -34,7 +83,7 @@ pub send-requires : goal.send-requires
 send-requires g c =
     let h = c.args.self.now in
     let K = kinds g.Q.QuorumSystem g.S.Timestamp g.V.Value h in
-    let x = contents c.args.memory.now in
+    let x = lent c.args.servers.now c.args.clients.now c.args.listeners.now c.args.messages.now c.args.reports.now in
     let u = c.args.client in
     let much = one_passes _ _ _ (sym c.check_memory.ensures ∙ c.in_ok-check_memory.was) in
     let inside : u < h.clients = ltb-true u h.clients (one_passes _ _ _ (sym c.check_client.ensures ∙ c.in_ok-check_client.was)) in
@@ -42,11 +91,11 @@ send-requires g c =
     let b = c.in_ok-begun.ensures h.clients h.capacity 4294967295 inside in
     begin_room K h x much refl u inside (begins_read K u was) x.clients x.reports (ap (client_refuses K was) (sym c.room-room.ensures) ∙ b.0.0) c.in_ok-begun.begun.1 refl
 
-pub returns-clause-answers : goal.returns-clause-answers
-returns-clause-answers g c =
+pub returns : goal.returns
+returns g c =
     let h = c.args.self.now in
     let K = kinds g.Q.QuorumSystem g.S.Timestamp g.V.Value h in
-    let x = contents c.args.memory.now in
+    let x = lent c.args.servers.now c.args.clients.now c.args.listeners.now c.args.messages.now c.args.reports.now in
     let u = c.args.client in
     let much = one_passes _ _ _ (sym c.check_memory.ensures ∙ c.in_ok-check_memory.was) in
     let inside : u < h.clients = ltb-true u h.clients (one_passes _ _ _ (sym c.check_client.ensures ∙ c.in_ok-check_client.was)) in
