@@ -10,7 +10,7 @@ use timestamps::Timestamp;
 use values::Value;
 
 // The entry reports nothing from now on.
-fn erase<S: Copy, V: Copy>(report: &mut Report<S, V>)
+fn erase<S: Timestamp, V: Value>(report: &mut Report<S, V>)
     ensures { report.new ≡ None }
 {
     *report = None;
